@@ -1,4 +1,5 @@
-"""What audit/record does: the head of a log, the build of the recorder, and a run of a program under it or under strace."""
+"""What audit/record does: the head of a log, the build of the recorder, and a run of a program under it or under
+strace."""
 
 import os
 import pathlib
@@ -21,8 +22,10 @@ SHARED_BYTES = 65536
 LEAST_KERNEL = (5, 12)
 ELF = b"\x7fELF"
 PT_INTERP = 3
-TRACED = ("userfaultfd,ioctl,read,readv,poll,ppoll,mmap,munmap,mremap,madvise,close,close_range,dup,dup2,dup3,fcntl,pidfd_getfd,recvmsg,"
-          "clone,clone3,fork,vfork,execve,exit_group")
+TRACED = (
+    "userfaultfd,ioctl,read,readv,poll,ppoll,mmap,munmap,mremap,madvise,close,close_range,dup,dup2,dup3,fcntl,pidfd_getfd,recvmsg,"
+    "clone,clone3,fork,vfork,execve,exit_group"
+)
 STRACE = ["strace", "-f", "-ttt", "-T", "-y", "-xx", "-s", "65536", "-v", "-e", "trace=" + TRACED, "-e", "signal=none"]
 
 
@@ -49,8 +52,15 @@ def head(recorder, clock, words):
             break
         command.append(word)
     system = platform.uname()
-    return "\n".join((f"uffdlog 1\nrecorder {recorder} 1", f"kernel {' '.join(map(encoded, (system.system, system.release, system.machine)))}",
-                      f"page {os.sysconf('SC_PAGESIZE')}", f"clock {clock}", f"command {' '.join(command) or '-'}")) + "\n"
+    return "\n".join(
+        (
+            f"uffdlog 1\nrecorder {recorder} 1",
+            f"kernel {' '.join(map(encoded, (system.system, system.release, system.machine)))}",
+            f"page {os.sysconf('SC_PAGESIZE')}",
+            f"clock {clock}",
+            f"command {' '.join(command) or '-'}",
+        )
+    ) + "\n"
 
 
 def build():
@@ -66,7 +76,10 @@ def build():
     with tempfile.TemporaryDirectory(dir=RECORDER.parent) as folder:
         made = pathlib.Path(folder) / RECORDER.name
         command = [compiler, *FLAGS, "-o", str(made), *(str(file) for file in files if file.suffix == ".c"), "-ldl"]
-        say(f"building the recorder: {compiler} {' '.join(FLAGS)} -o {os.path.relpath(RECORDER)} {os.path.relpath(SOURCES)}/*.c -ldl")
+        say(
+            f"building the recorder: {compiler} {' '.join(FLAGS)} -o {os.path.relpath(RECORDER)} "
+            f"{os.path.relpath(SOURCES)}/*.c -ldl"
+        )
         if subprocess.run(command).returncode:
             raise CannotRecord("the recorder cannot be compiled")
         made.replace(RECORDER)
@@ -80,7 +93,8 @@ def found_program(word):
 
 
 def why_not_preloaded(path):
-    """Why LD_PRELOAD does nothing to a program: None where nothing is known against it. A script is run by a program that may take it."""
+    """Why LD_PRELOAD does nothing to a program: None where nothing is known against it. A script is run by a program
+    that may take it."""
     with open(path, "rb") as file:
         start = file.read(64)
         if not start.startswith(ELF) or len(start) < 64:
@@ -104,10 +118,14 @@ def machine():
 
 def check_machine():
     if sys.platform != "linux" or machine() < 0:
-        raise CannotRecord(f"Linux on x86_64 or aarch64 is needed, and this is {platform.system()} on {platform.machine()}")
+        raise CannotRecord(
+            f"Linux on x86_64 or aarch64 is needed, and this is {platform.system()} on {platform.machine()}"
+        )
     numbers = tuple(int(part) for part in platform.release().split("-")[0].split(".")[:2] if part.isdigit())
     if numbers < LEAST_KERNEL:
-        raise CannotRecord(f"Linux 5.12 or later is needed, since objects are named by their inodes, and this is {platform.release()}")
+        raise CannotRecord(
+            f"Linux 5.12 or later is needed, since objects are named by their inodes, and this is {platform.release()}"
+        )
 
 
 def create(log, text):
@@ -117,8 +135,8 @@ def create(log, text):
 
 
 def run_to_end(command, path=None, environment=None, passed=(signal.SIGTERM,)):
-    """Runs a program, and passes some signals on to it. Those of a terminal reach it anyway. Returns its status as a shell has it. The program is
-    that of `path`, where it is not the first word of the command."""
+    """Runs a program, and passes some signals on to it. Those of a terminal reach it anyway. Returns its status as a
+    shell has it. The program is that of `path`, where it is not the first word of the command."""
     kinds = (signal.SIGINT, signal.SIGQUIT, signal.SIGTERM)
     before = [(it, signal.signal(it, signal.SIG_IGN)) for it in kinds]
     try:
@@ -174,7 +192,8 @@ MADE = re.compile(rb"(?:clone3?|fork|vfork)(?:\(| resumed).* = (\d+)(?: |$)")
 
 
 def threads_before(trace, process):
-    """Lines for the threads of a process that no line of strace's has made: they were there before, and share all with its first one."""
+    """Lines for the threads of a process that no line of strace's has made: they were there before, and share all with
+    its first one."""
     made, first, seen = {b"%d" % process}, None, {}
     with open(trace, "rb") as file:
         for line in file:

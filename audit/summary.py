@@ -1,4 +1,5 @@
-"""What a log has, for a person: `Summary` takes the entries of a log, and writes which program made which calls, and how long faults waited."""
+"""What a log has, for a person: `Summary` takes the entries of a log, and writes which program made which calls, and
+how long faults waited."""
 
 import heapq
 from collections import Counter, defaultdict
@@ -9,8 +10,14 @@ from uffdlog import CALLS
 DONTWAKE = 1
 WRITEPROTECT_WP, WRITEPROTECT_DONTWAKE = 1, 2
 INSTALLS = ("copy", "zeropage", "continue", "poison", "move")
-KINDS_OF_FAULT = {0: "read, missing", 1: "write, missing", 2: "read, write-protected", 3: "write, write-protected", 4: "read, minor",
-                  5: "write, minor"}
+KINDS_OF_FAULT = {
+    0: "read, missing",
+    1: "write, missing",
+    2: "read, write-protected",
+    3: "write, write-protected",
+    4: "read, minor",
+    5: "write, minor",
+}
 SHOWN = 5
 # Of the ranges that were resolved last, how many are kept for faults that are read while their page is resolved.
 RECENT = 64
@@ -36,7 +43,10 @@ def resolved_range(entry):
         wakes = not mode & DONTWAKE
     else:
         done = length if entry.word == "ok" else 0
-        wakes = call.word in ("wake", "unregister") or call.word == "writeprotect" and not mode & (WRITEPROTECT_WP | WRITEPROTECT_DONTWAKE)
+        wakes = (
+            call.word in ("wake", "unregister")
+            or call.word == "writeprotect" and not mode & (WRITEPROTECT_WP | WRITEPROTECT_DONTWAKE)
+        )
     return (start_of(call), start_of(call) + done) if done and wakes else None
 
 
@@ -56,7 +66,9 @@ class Waits:
             if message.word == "fault" and message.values:
                 page = message.values["ADDRESS"] // self.page * self.page
                 fault = Fault(message.line, message.time, call.line)
-                during = [line for start, end, line in self.recent[call.object] if start <= page < end and line > call.line]
+                during = [
+                    line for start, end, line in self.recent[call.object] if start <= page < end and line > call.line
+                ]
                 if during:
                     self.lasted.append((0, fault.line, during[-1]))
                 else:
@@ -143,7 +155,13 @@ class Summary:
         self.answers[call.word][entry.word] += 1
         if call.word == "open" and entry.word == "ok":
             found = entry.values["O"][0]
-            self.object(found, f"opened by process {entry.pid} at line {call.line}, {call.arguments['WAY']}, flags 0x{call.arguments['FLAGS']:x}")
+            self.object(
+                found,
+                (
+                    f"opened by process {entry.pid} at line {call.line}, {call.arguments['WAY']}, flags "
+                    f"0x{call.arguments['FLAGS']:x}"
+                ),
+            )
         elif call.object is not None:
             self.object(call.object, "of unknown origin")
             self.take_answer(call, entry)
@@ -175,8 +193,11 @@ class Summary:
         yield from (f"command   {' '.join(head.get('command', ()))}", f"recorder  {' '.join(head.get('recorder', ()))}")
         yield f"kernel    {' '.join(head.get('kernel', ()))}, pages of {self.reader.page} bytes"
         seconds = (self.last - self.first) / 1e9 if self.first is not None else 0
-        yield (f"log       {self.reader.line} lines in {seconds:.6f} s, {len(self.processes)} processes, {len(self.threads)} threads, "
-               f"{self.reader.lost} lines lost")
+        yield (
+            f"log       {self.reader.line} lines in {seconds:.6f} s, {len(self.processes)} processes, "
+            f"{len(self.threads)} threads, "
+            f"{self.reader.lost} lines lost"
+        )
         if self.reader.excused:
             yield f"          {self.reader.excused} lines lack what the lost lines may have had"
         yield from rows("process", self.commands)
@@ -200,7 +221,9 @@ class Summary:
             answers = self.answers.get(word, Counter())
             if not answers and not open_calls[word]:
                 continue
-            parts = [f"{answer} {count}" for answer, count in sorted(answers.items(), key=lambda it: (it[0] != "ok", it[0]))]
+            parts = [
+                f"{answer} {count}" for answer, count in sorted(answers.items(), key=lambda it: (it[0] != "ok", it[0]))
+            ]
             if open_calls[word]:
                 lines = [call.line for call in self.reader.never_returned if (call.word or "?") == word]
                 parts.append(f"never returned {len(lines)} ({line_numbers(lines)})")
@@ -210,7 +233,10 @@ class Summary:
         lasted, left = self.waits.lasted, self.waits.unresolved()
         if lasted:
             middle = sorted(wait for wait, _, _ in lasted)[len(lasted) // 2]
-            yield f"wait      {len(lasted)} faults from being read to the call that woke their page; the median is {microseconds(middle)}"
+            yield (
+                f"wait      {len(lasted)} faults from being read to the call that woke their page; the median is "
+                f"{microseconds(middle)}"
+            )
             for wait, line, until in heapq.nlargest(SHOWN, lasted, key=lambda it: (it[0], -it[1])):
                 yield f"          {microseconds(wait)}: read at line {line}, woken at line {until}"
         if left:

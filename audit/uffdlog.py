@@ -1,7 +1,8 @@
 """Reads logs of userfaultfd calls, line by line: the language uffdlog 1 of docs/UFFDLOG.md.
 
-As a module: `Reader` takes lines and says what is wrong with each; `lines_of` gives the lines of a file, packed or not. A reader judges no rule of
-a kernel: only whether a log is well formed, and says what it says of calls, descriptors, pages and times without contradicting itself.
+As a module: `Reader` takes lines and says what is wrong with each; `lines_of` gives the lines of a file, packed or not.
+A reader judges no rule of a kernel: only whether a log is well formed, and says what it says of calls, descriptors,
+pages and times without contradicting itself.
 """
 
 import errno
@@ -22,7 +23,8 @@ NUMBER = re.compile(r"0|[1-9][0-9]{0,19}|0x(?:0|[1-9a-f][0-9a-f]{0,15})")
 SIGNED = re.compile(r"-?(?:0|[1-9][0-9]{0,18})")
 TEXT = re.compile(r"%|(?:[!-$&-~]|%[0-9a-f]{2})+")
 PRINTABLE = re.compile(rb"[ -~]*")
-# A line of strace's: after a process and a time, which may be missing, comes a call's name with its arguments, and what it returned.
+# A line of strace's: after a process and a time, which may be missing, comes a call's name with its arguments, and what
+# it returned.
 STRACE = re.compile(rb"(?:[0-9.:\[\]pid ]* )?[a-z0-9_]+\(.* [=<]", re.S)
 
 
@@ -105,8 +107,10 @@ def bits(word):
     return value
 
 
-FIELDS = {"O": descriptor, "WAY": one_of("syscall", "device"), "BYTES": signed, "COUNT": small, "FD": small, "PID": small, "TARGET": target,
-          "ONOFF": one_of("0", "1"), "BITS": bits, "ROOM": room, "THREAD": small}
+FIELDS = {
+    "O": descriptor, "WAY": one_of("syscall", "device"), "BYTES": signed, "COUNT": small, "FD": small, "PID": small,
+    "TARGET": target, "ONOFF": one_of("0", "1"), "BITS": bits, "ROOM": room, "THREAD": small,
+}
 
 
 def values_of(names, words):
@@ -117,7 +121,8 @@ def values_of(names, words):
 
 
 class Form(NamedTuple):
-    """A call: its fields, those after ok, those that may follow an errno, and which of them are ranges of pages or the address of a page."""
+    """A call: its fields, those after ok, those that may follow an errno, and which of them are ranges of pages or the
+    address of a page."""
 
     arguments: tuple
     answer: tuple = ()
@@ -130,7 +135,9 @@ def form(arguments, answer="", failed="", ranges=(), pages=()):
     return Form(tuple(arguments.split()), tuple(answer.split()), tuple(failed.split()), ranges, pages)
 
 
-RANGE, INTO, BOTH = (("START", "LENGTH"),), (("DESTINATION", "LENGTH"),), (("DESTINATION", "LENGTH"), ("SOURCE", "LENGTH"))
+RANGE, INTO, BOTH = (
+    (("START", "LENGTH"),), (("DESTINATION", "LENGTH"),), (("DESTINATION", "LENGTH"), ("SOURCE", "LENGTH"))
+)
 CALLS = {
     "open": form("WAY FLAGS", "O"),
     "api": form("O API FEATURES", "FEATURES IOCTLS"),
@@ -185,8 +192,8 @@ class Call:
 
 @dataclass
 class Entry:
-    """A line that was read. `call` is the call of begin, end, message and have; `word` the call's name, the answer's first word or the message's
-    kind, and `values` its fields by name. Of a line of the head `values` has its words."""
+    """A line that was read. `call` is the call of begin, end, message and have; `word` the call's name, the answer's
+    first word or the message's kind, and `values` its fields by name. Of a line of the head `values` has its words."""
 
     kind: str
     line: int
@@ -239,8 +246,10 @@ class Reader:
         self.lost = 0
         self.excused = 0  # what would be refused, had no line been lost
         self.never_returned = []
-        self.kinds = {"begin": self.begin, "end": self.end, "message": self.message, "have": self.have, "found": self.found,
-                      "dropped": self.dropped, "started": self.started, "forked": self.forked, "exit": self.exit}
+        self.kinds = {
+            "begin": self.begin, "end": self.end, "message": self.message, "have": self.have, "found": self.found,
+            "dropped": self.dropped, "started": self.started, "forked": self.forked, "exit": self.exit,
+        }
 
     def take(self, data):
         """Reads one line, given as bytes with its line feed. Returns its Entry, or None where it was wrong."""
@@ -265,7 +274,11 @@ class Reader:
 
     def words(self, data):
         if not data.endswith(b"\n"):
-            raise Wrong("no line feed: the log was cut here" if len(data) <= LONGEST_LINE else f"longer than {LONGEST_LINE} bytes")
+            raise Wrong(
+                "no line feed: the log was cut here"
+                if len(data) <= LONGEST_LINE
+                else f"longer than {LONGEST_LINE} bytes"
+            )
         if len(data) > LONGEST_LINE:
             raise Wrong(f"longer than {LONGEST_LINE} bytes")
         if not PRINTABLE.fullmatch(data, 0, len(data) - 1):
@@ -361,14 +374,16 @@ class Reader:
         if call.number <= last:
             raise Wrong(f"call {call.number} is not above the thread's last one, {last}")
         if entry.word not in CALLS:
-            raise Wrong(f"unknown call '{entry.word}'" + (f" {words[3]}" if entry.word == "ioctl" and len(words) == 4 else ""))
+            raise Wrong(
+                f"unknown call '{entry.word}'" + (f" {words[3]}" if entry.word == "ioctl" and len(words) == 4 else "")
+            )
         entry.values = values_of(CALLS[entry.word].arguments, words[2:])
         call.word, call.arguments = entry.word, entry.values
         if "O" in entry.values:
             self.use(process, *entry.values["O"])
 
     def use(self, process, found, fd):
-        """A descriptor that a line uses has to be known. It is named once, and known then."""
+        """A descriptor that a line uses must be known. It is named once, and known then."""
         if process.is_bound(found, fd):
             return
         held = sorted(process.bound.get(fd, ()))
@@ -394,7 +409,11 @@ class Reader:
     def end(self, entry, process, words):
         call = entry.call = self.open_call(entry, process, words, "end N ANSWER")
         entry.word = words[1]
-        if entry.word not in ("ok", "interrupted") and entry.word not in ERRNOS and not re.fullmatch("E[1-9][0-9]{0,3}", entry.word):
+        if (
+            entry.word not in ("ok", "interrupted")
+            and entry.word not in ERRNOS
+            and not re.fullmatch("E[1-9][0-9]{0,3}", entry.word)
+        ):
             raise Wrong(f"unknown answer '{entry.word}'")
         if not call:
             return

@@ -1,4 +1,5 @@
-"""What the scripts that time have in common: runs of a program, the least of several, and the part of docs/PERFORMANCE.md that they write."""
+"""What the scripts that time have in common: runs of a program, the least of several, and the part of
+docs/PERFORMANCE.md that they write."""
 
 import os
 import subprocess
@@ -12,7 +13,8 @@ BENCH = page.TOP / "crates" / "bench" / "out" / "bench"
 
 
 def played(words, script=os.devnull):
-    """The seconds of a run of a program on a file, and the most memory that it had, in KiB. What it writes is dropped."""
+    """The seconds of a run of a program on a file, and the most memory that it had, in KiB. What it writes is
+    dropped."""
     with open(script) as source, open(os.devnull, "w") as sink:
         begun = time.perf_counter()
         child = subprocess.Popen(words, stdin=source, stdout=sink, env=page.environment())
@@ -32,7 +34,8 @@ def said(*words):
 
 
 def least(measure, runs):
-    """Of each number that a measure gives the least of some runs. Cases that one measure takes in turn share a slow while."""
+    """Of each number that a measure gives the least of some runs. Cases that one measure takes in turn share a slow
+    while."""
     return [min(numbers) for numbers in zip(*[list(measure()) for _ in range(runs)])]
 
 

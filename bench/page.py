@@ -1,5 +1,5 @@
-"""Puts what a script has measured or found into its part of a page of docs/, between two comments that name the part, or into a page of
-dist/, which is not kept in the repository."""
+"""Puts what a script has measured or found into its part of a page of docs/, between two comments that name the part,
+or into a page of dist/, which is not kept in the repository."""
 
 import argparse
 import os
@@ -15,17 +15,22 @@ def machine():
     """The machine on which it was measured, in a few words."""
     for line in open("/proc/cpuinfo"):
         if line.startswith("model name"):
-            return f"{line.partition(':')[2].strip()}, {len([it for it in open('/proc/cpuinfo') if it.startswith('processor')])} processors"
+            return (
+                f"{line.partition(':')[2].strip()}, "
+                f"{len([it for it in open('/proc/cpuinfo') if it.startswith('processor')])} processors"
+            )
     return platform.machine()
 
 
 def environment():
-    """The environment that the launcher gives the program: huge pages for the allocator, where the kernel has them, and one arena for all threads."""
+    """The environment that the launcher gives the program: huge pages for the allocator, where the kernel has them, and
+    one arena for all threads."""
     return {"GLIBC_TUNABLES": "glibc.malloc.hugetlb=1:glibc.malloc.arena_max=1", **os.environ}
 
 
 def option(*allowed):
-    """The option of a script's command line that takes one of these at most, or None. --help writes the script's own text."""
+    """The option of a script's command line that takes one of these at most, or None. --help writes the script's own
+    text."""
     text = sys.modules["__main__"].__doc__
     parser = argparse.ArgumentParser(description=text, formatter_class=argparse.RawDescriptionHelpFormatter)
     choice = parser.add_mutually_exclusive_group() if allowed else parser
@@ -52,7 +57,8 @@ def keep(file, made):
 
 
 def replaced(page, part, text, file):
-    """The text of a page with another text in a part of it. The file is what a message names where the page has no such part."""
+    """The text of a page with another text in a part of it. The file is what a message names where the page has no such
+    part."""
     begin, end = f"<!-- {part} -->\n", f"<!-- end of {part} -->\n"
     head, _, rest = page.partition(begin)
     _, found, tail = rest.partition(end)

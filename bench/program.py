@@ -18,7 +18,10 @@ def require(*programs):
     """Ends the script where a program was not built."""
     for it in programs:
         if not pathlib.Path(it).is_file():
-            sys.exit(f"there is no {it}: rt ci makes each program, ./postmig prove that of crates/postmig, and rt run in crates/NAME one alone")
+            sys.exit(
+                f"there is no {it}: rt ci makes each program, ./postmig prove that of crates/postmig, and rt run in "
+                "crates/NAME one alone"
+            )
 
 
 def file_at(name):
@@ -35,10 +38,12 @@ def run(words, given=b"", folder=None):
 
 
 def written(words, given=b"", folder=None):
-    """What a command writes, which has to succeed."""
+    """What a command writes, which must succeed."""
     ended = run(words, given, folder)
     if ended.returncode:
-        raise ValueError(f"{' '.join(map(str, words))}: status {ended.returncode}, {ended.stdout[-200:]}{ended.stderr[-200:]}")
+        raise ValueError(
+            f"{' '.join(map(str, words))}: status {ended.returncode}, {ended.stdout[-200:]}{ended.stderr[-200:]}"
+        )
     return ended.stdout
 
 

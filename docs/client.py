@@ -1,4 +1,4 @@
-"""Tests a fault handler against the model: one step for one event, and both have to do the same.
+"""Tests a fault handler against the model: one step for one event, and both must do the same.
 
 python3 docs/client.py [PROGRAM]     PROGRAM is postmig (the launcher of this repository)
 """
@@ -12,7 +12,9 @@ class Model:
 
     def __init__(self, program):
         try:
-            self.process = subprocess.Popen([program, "run", "--cpus", "2"], stdin=subprocess.PIPE, stdout=subprocess.PIPE, text=True)
+            self.process = subprocess.Popen(
+                [program, "run", "--cpus", "2"], stdin=subprocess.PIPE, stdout=subprocess.PIPE, text=True
+            )
         except OSError as fault:
             sys.exit(f"{program}: {fault.strerror}")
 
@@ -31,7 +33,8 @@ class Model:
 
 
 class Handler:
-    """The handler under test. This one is a toy: call yours here, and return what it did in the words of docs/SCRIPT.md."""
+    """The handler under test. This one is a toy: call yours here, and return what it did in the words of
+    docs/SCRIPT.md."""
 
     def __init__(self, owed):
         self.owed = set(owed)

@@ -2,11 +2,15 @@
 """Decodes the frames of a wire, of either version, and writes a line for each: docs/decode.py FILE
 
 It reads the form alone: `postmig frames` also refuses a page that no guest may map, say, and a frame out of its turn.
-`frames` yields (epoch, name, fields), and raises ValueError where the bytes are not frames. docs/FORMATS.md has the format."""
+`frames` yields (epoch, name, fields), and raises ValueError where the bytes are not frames. docs/FORMATS.md has the
+format."""
 
 import sys
 
-NAMES = {1: "advise", 2: "page", 3: "zero", 4: "discard", 5: "package", 6: "end", 7: "resume", 8: "run", 0x81: "request", 0x82: "recv", 0x83: "done"}
+NAMES = {
+    1: "advise", 2: "page", 3: "zero", 4: "discard", 5: "package", 6: "end", 7: "resume", 8: "run", 0x81: "request",
+    0x82: "recv", 0x83: "done",
+}
 STATES = ("notrun", "running", "ended")
 COMMANDS = ((), (8, 1), (8, 1, 8))  # nothing, a load, a store: the sizes of their numbers
 
@@ -60,7 +64,13 @@ def frames(data):
     at = 0
     while at < len(data):
         head = data[at : at + 12]
-        if len(head) < 12 or head[0] not in (1, 2) or head[0] != data[0] or head[1] not in NAMES or head[2:4] != b"\0\0":
+        if (
+            len(head) < 12
+            or head[0] not in (1, 2)
+            or head[0] != data[0]
+            or head[1] not in NAMES
+            or head[2:4] != b"\0\0"
+        ):
             raise ValueError(f"no header at byte {at}")
         body = Body(data[at + 12 : at + 12 + int.from_bytes(head[8:], "big")])
         yield int.from_bytes(head[4:8], "big"), NAMES[head[1]], fields(NAMES[head[1]], body)
@@ -75,7 +85,9 @@ def shown(key, value):
         return f"page {4096 * value:#x}"
     if key not in ("pages", "owed", "areas"):
         return f"{key} {value}"
-    runs = (":".join([f"{4096 * first:#x}-{4096 * (first + count):#x}", *map(str, rest)]) for first, count, *rest in value)
+    runs = (
+        ":".join([f"{4096 * first:#x}-{4096 * (first + count):#x}", *map(str, rest)]) for first, count, *rest in value
+    )
     return " ".join([key, *runs])
 
 

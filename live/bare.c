@@ -81,7 +81,7 @@ static void serve(struct bare *bare, struct stream *main, struct stream *urgent)
     }
 }
 
-/* Each connection begins with a head that is no page's. (Without a byte nobody accepts it.) */
+/* Each connection begins with a head that is not a page's. (Without a byte nobody accepts it.) */
 static void connect_there(const struct bare *bare, struct stream *stream)
 {
     int file = wire_connect(&bare->address, bare->options->buffer);

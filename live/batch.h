@@ -1,5 +1,5 @@
-/* Pages that arrive one after the other: their heads are received apart from their bytes, so that these lie side by side and several pages
-   go to the kernel by one call. A page that has come in part stays here for the rest of it. */
+/* Pages that arrive one after the other: their heads are received apart from their bytes, so that these are contiguous and several pages
+   go to the kernel by one call. A page that has arrived in part stays here for the rest of it. */
 #ifndef BATCH_H
 #define BATCH_H
 
@@ -23,7 +23,7 @@ struct batch {
 void batch_open(struct batch *batch);
 
 /* Once no whole Page is there: receives what follows the bytes that are. If there are none, the `missing` bytes of the stream's first frame go to
-   the stream, and only what follows them comes here. `got`: how many bytes have come. False once the connection is broken. */
+   the stream, and only what follows them comes here. `got`: how many bytes have arrived. False once the connection is broken. */
 bool batch_receive(struct batch *batch, struct stream *stream, size_t missing, size_t *got);
 
 /* The frame with this number; they are asked for from 0 on. False if it is not there whole, or is no Page: then neither are those after it. */

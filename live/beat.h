@@ -18,7 +18,7 @@ void beat_send(struct stream *stream, uint64_t now);
 uint64_t beat_listen(struct stream *stream, uint64_t took);
 
 /* Nanoseconds after which a connection counts as broken, where the last ones of this number were broken so, one after the other: each time twice
-   as long, up to 32 times. Else two hosts that are too busy for their beats would never come to an end. */
+   as long, up to 32 times. Else two hosts that are too busy for their beats would never end. */
 uint64_t beat_limit(uint32_t seconds, uint32_t broken);
 
 /* Takes the signs away that are at the front of what was received: no part of a frame is. Returns whether BINDS was among them. */

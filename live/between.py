@@ -1,7 +1,9 @@
 #!/usr/bin/env python3
-"""A relay of TCP connections, which cuts them, or holds their bytes back: live/between.py --listen HOST:PORT --connect HOST:PORT [--delay MS]
+"""A relay of TCP connections, which cuts them, or holds their bytes back: live/between.py --listen HOST:PORT --connect
+HOST:PORT [--delay MS]
 
-It does not know what they carry. What it holds back arrives later, and in order: a relay can show neither loss nor reordering of packets."""
+It does not know what they carry. What it holds back arrives later, and in order: a relay can show neither loss nor
+reordering of packets."""
 
 import argparse
 import contextlib
@@ -12,7 +14,7 @@ import threading
 import time
 
 MOST_AT_ONCE = 65536
-# Pieces that are held back in one direction; then the sender has to wait.
+# Pieces that are held back in one direction; then the sender must wait.
 MOST_HELD = 64
 
 
@@ -34,9 +36,9 @@ def put_or_end(connection, data):
 
 
 class Relay:
-    """cuts: for each connection, in the order in which they are accepted, None or ("out" or "in", a number of bytes): it
-    is cut once these have gone to the listener, or have come from it; with a third word, "swallow", it stays open then,
-    and what follows is swallowed. Later ones are whole. delay: in seconds, of each byte in both directions."""
+    """cuts: for each connection, in the order in which they are accepted, None or ("out" or "in", a number of bytes):
+    it is cut once these have gone to the listener, or have arrived from it; with a third word, "swallow", it stays open
+    then, and what follows is swallowed. Later ones are whole. delay: in seconds, of each byte in both directions."""
 
     def __init__(self, target, listen=("127.0.0.1", 0), cuts=(), delay=0.0):
         self.target, self.cuts, self.delay = target, list(cuts), delay

@@ -17,7 +17,7 @@
 #define KEPT_AT_A_TIME 16u
 #define OWN_FILES (4u + OPERATOR_FILES) /* what is waited for, but of the door */
 #define MOST_FILES (MOST_NEWCOMERS + 1u + OWN_FILES)
-#define RESERVE_BYTES (28u << 20)    /* of the heap, for a node (20 MiB, as measured), buffers, and what is made of frames; */
+#define RESERVE_BYTES (28u << 20)    /* of the heap, for a node (20 MiB, as measured), buffers, and the contents of frames; */
 #define RESERVE_OF_PAGE 96u          /* for each page (60); */
 #define RESERVE_OF_TRACE (96u << 20) /* and for the lines that wait in a trace */
 #define MOST_UNASKED 8u              /* turns without poll(2) */
@@ -77,7 +77,7 @@ static void begin(struct dest *dest)
     dest_look(dest);
 }
 
-/* Listens for the source, or starts the program that takes its part. All connections come to the first slice's door. */
+/* Listens for the source, or starts the program that takes its part. All connections are made to the first slice's door. */
 static void open_doors(struct dest *dests, const struct options *options)
 {
     struct door *first = &dests->door;
@@ -206,7 +206,7 @@ static bool wait_for_orders(uint32_t milliseconds)
     return keeper->slices->is_over;
 }
 
-/* The guest, or what has come of it, is here alone. What cannot be tried again leaves it as it is: threads that need no page run on. */
+/* The guest, or what has arrived of it, is here alone. What cannot be tried again leaves it as it is: threads that need no page run on. */
 static int keep_all(const char *why)
 {
     keeper->is_held = true;

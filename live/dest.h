@@ -18,7 +18,7 @@ enum claim {
     CLAIM_NONE,  /* it has sent nothing: another one takes its place once it is idle, */
     CLAIM_SENDS, /* or is turned away while it is not */
     CLAIM_BOUND, /* once each slice is bound it may have switched: no other one is served, and only `abandon` ends this side; */
-    CLAIM_TOLD   /* and it was told so on this channel */
+    CLAIM_TOLD   /* and this was sent on this channel */
 };
 
 /* What a turn has left to do, for which poll(2) is not to wait. */
@@ -67,7 +67,7 @@ struct dest {
     } figures;
 };
 
-/* Takes the state anew from the node. */
+/* Takes the state again from the node. */
 void dest_look(struct dest *dest);
 /* Says how far this slice is, for what is said of all. */
 void dest_says(struct dest *dest);

@@ -28,7 +28,7 @@ void dest_renew_node(struct dest *dest)
     dest_look(dest);
 }
 
-/* The memory is registered before the first thread runs: by a monitor, before it was handed over. The threads run once all slices have come here. */
+/* The memory is registered before the first thread runs: by a monitor, before it was handed over. The threads run once all slices have arrived here. */
 static void run_guest(struct dest *dest)
 {
     if (atomic_load(&dest->guest->is_started))

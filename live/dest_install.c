@@ -81,7 +81,7 @@ static uint32_t side_by_side(struct dest *dest, const postmig_effect *next, cons
     return count;
 }
 
-/* Puts the first copy that waits, and by the same call those that go side by side with it. Returns how many were installed or dropped; it
+/* Puts the first copy that waits, and by the same call the contiguous ones after it. Returns how many were installed or dropped; it
    may be none where the kernel has an event that must be read first. */
 static uint32_t install_some(struct dest *dest, const uint8_t *pages, const uint64_t *origin, uint32_t most)
 {

@@ -47,7 +47,7 @@ void door_feed(struct door *door, int file, const struct hello *own)
     door->newcomer[0] = (struct newcomer){ .file = file, .deadline = UINT64_MAX };
 }
 
-/* (a connection is made for the program once something has come on it) */
+/* (a connection is made for the program once something has arrived on it) */
 static int listen_by_tcp(const struct address *address, uint32_t buffer)
 {
     int file = socket(address->name.ss_family, SOCK_STREAM | SOCK_NONBLOCK | SOCK_CLOEXEC, 0), yes = 1, seconds = PATIENCE_MS / 1000;

@@ -33,7 +33,7 @@ struct door {
     struct newcomer newcomer[MOST_NEWCOMERS];
     struct in6_addr known;   /* the host of the source that was let in, */
     bool is_known;           /* if one was */
-    int passes[MOST_SLICES]; /* to the doors behind this one, by their slices; -1: none */
+    int passes[MOST_SLICES]; /* to the doors after this one, by their slices; -1: none */
     uint64_t turned_away;
     int lack; /* why nobody could be accepted, as it was said last; an errno */
 };
@@ -47,7 +47,7 @@ void door_feed(struct door *door, int file, const struct hello *own);
 /* The door of a further slice: who comes there was let in by the first one's, which passes it on. */
 void door_behind(struct door *door, struct door *first, const struct hello *own);
 
-/* Has those go on to their slices' doors that belong to this source, which the first slice serves. */
+/* Passes those to their slices' doors that belong to this source, which the first slice serves. */
 void door_pass(struct door *first, uint64_t instance);
 
 /* The port, where the kernel has chosen it. */

@@ -3,8 +3,8 @@
 
 Its standard output is the wire to the destination, its standard input the wire back: a hello, and then frames of
 version 2, as docs/FORMATS.md has them. It sends half of a guest's memory while the guest could still run, then the
-Package, and after it the rest: each page that is asked for first.
-What is of this guest is in `Guest`; a program with a guest of its own has that in its place. The options are those of the destination.
+Package, and after it the rest: each page that is asked for first. What is of this guest is in `Guest`; a program with a
+guest of its own has that in its place. The options are those of the destination.
 """
 
 import argparse

@@ -1,14 +1,14 @@
 """A small script out of the merged one of a migration: the steps of a few pages, and all those that concern no page.
 
-What the nodes do with a page does not depend on the others, but for frames and events of several pages: here the pages of a run are sent one
-by one, and an event of several is left out.
+What the nodes do with a page does not depend on the others, but for frames and events of several pages: here the pages
+of a run are sent one by one, and an event of several is left out.
 """
 
 import collections
 import re
 
 PAGE = 4096
-# Of each fate so many pages, those to which it has come nearest to the switch.
+# Of each fate this number of pages, those which met it nearest to the switch.
 EACH = 2
 FATE = re.compile("requested|dropped|read remove|unprotected|zeroed|took request")
 LARGEST = 64
@@ -16,7 +16,8 @@ ADDRESS = re.compile("0x([0-9a-f]+)")
 
 
 class Reader:
-    """Goes over the lines of a merged script, and says which pages each is about: a range, or None for a line that concerns no page."""
+    """Goes over the lines of a merged script, and says which pages each is about: a range, or None for a line that
+    concerns no page."""
 
     def __init__(self):
         self.waiting = {}  # what the command of each processor is about
@@ -52,7 +53,7 @@ def lines_of(script):
 
 
 class Fates:
-    """For each fate the pages to which it has come, with the least number of lines from there to the switch."""
+    """For each fate the pages that met it, with the least number of lines from there to the switch."""
 
     def __init__(self, lines):
         self.found, self.sent, self.flying = collections.defaultdict(dict), set(), set()

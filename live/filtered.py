@@ -16,7 +16,12 @@ ALLOWED, REFUSED = 0x7FFF0000, 0x00050000
 
 
 class Instruction(ctypes.Structure):
-    _fields_ = [("code", ctypes.c_uint16), ("if_true", ctypes.c_uint8), ("if_false", ctypes.c_uint8), ("operand", ctypes.c_uint32)]
+    _fields_ = [
+        ("code", ctypes.c_uint16),
+        ("if_true", ctypes.c_uint8),
+        ("if_false", ctypes.c_uint8),
+        ("operand", ctypes.c_uint32),
+    ]
 
 
 class Program(ctypes.Structure):
@@ -31,11 +36,14 @@ def install(*steps):
 
 
 def no_userfault():
-    """Called in the new process: userfaultfd(2) is refused, as in many containers. Root becomes nobody, who may not open its device."""
+    """Called in the new process: userfaultfd(2) is refused, as in many containers. Root becomes nobody, who may not
+    open its device."""
     if os.getuid() == 0:
         os.setgid(NOBODY)
         os.setuid(NOBODY)
-    install((LOAD, 0, 0, NUMBER), (IF_EQUAL, 0, 1, USERFAULTFD), (RETURN, 0, 0, REFUSED | EPERM), (RETURN, 0, 0, ALLOWED))
+    install(
+        (LOAD, 0, 0, NUMBER), (IF_EQUAL, 0, 1, USERFAULTFD), (RETURN, 0, 0, REFUSED | EPERM), (RETURN, 0, 0, ALLOWED)
+    )
 
 
 def no_features():

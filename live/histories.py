@@ -22,7 +22,7 @@ MOST_SHOWN = 6
 
 
 class Unreadable(Exception):
-    """A file that is no history of live."""
+    """A file that is not a history of live."""
 
 
 def read(name):

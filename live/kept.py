@@ -1,5 +1,5 @@
-"""A guest is not thrown away: sides that stop for a while, connections that carry nothing and stay open, plans and limits that do not fit, a reader
-who reads no more, the operator's words. Each case returns what is wrong, or None."""
+"""A guest is not thrown away: sides that stop for a while, connections that carry nothing and stay open, plans and
+limits that do not fit, a reader who reads no more, the operator's words. Each case returns what is wrong, or None."""
 
 import contextlib
 import os
@@ -24,7 +24,8 @@ SLOW = [*FAST, "--push-rate", "800"]
 
 
 def stopped(program, side, seconds):
-    """One side does not run for some seconds after the switch, and until the other one takes the connection for broken."""
+    """One side does not run for some seconds after the switch, and until the other one takes the connection for
+    broken."""
     both = hurt.Watched(program, hurt.SLOW, memory=[*SMALL, *QUICK])
     both.at("destination running")
     stopped_one, other = (both.dest, both.source) if side == "dest" else (both.source, both.dest)
@@ -44,7 +45,9 @@ def a_stopped_source(program):
 
 
 def swallowed(program, cuts, plan):
-    migration = pair.Migration([*SMALL, *QUICK, "--progress"], plan, ["--check-owed"], program, cuts=cuts, is_traced=True)
+    migration = pair.Migration(
+        [*SMALL, *QUICK, "--progress"], plan, ["--check-owed"], program, cuts=cuts, is_traced=True
+    )
     is_so = pair.wait_until(lambda: migration.relay.swallowed, migration.source.is_running)
     with contextlib.suppress(OSError, ValueError):  # (it may have ended)
         migration.source.order("push-rate 0")
@@ -52,10 +55,16 @@ def swallowed(program, cuts, plan):
 
 
 def half_open_connections(program):
-    """Of the main and of the urgent one, in either direction, also within the hello. Requests, and the pages that they bring, need a slow push."""
+    """Of the main and of the urgent one, in either direction, also within the hello. Requests, and the pages that they
+    bring, need a slow push."""
     slow = hurt.SLOW
-    for plan, cuts in (FAST, [("out", 1000000, "swallow")]), (slow, [("in", 200, "swallow")]), (slow, [None, ("out", 3000, "swallow")]), \
-            (FAST, [("out", 100, "swallow")]), (FAST, [("out", 100000, "swallow"), None, ("in", 200, "swallow")]):
+    for plan, cuts in (
+        (FAST, [("out", 1000000, "swallow")]),
+        (slow, [("in", 200, "swallow")]),
+        (slow, [None, ("out", 3000, "swallow")]),
+        (FAST, [("out", 100, "swallow")]),
+        (FAST, [("out", 100000, "swallow"), None, ("in", 200, "swallow")]),
+    ):
         wrong = swallowed(program, cuts, plan)
         if wrong:
             return wrong
@@ -63,7 +72,8 @@ def half_open_connections(program):
 
 
 def refused(program, source, dest, text):
-    """A source that does not fit keeps its guest and says why, and so does the destination, which then takes the right one."""
+    """A source that does not fit keeps its guest and says why, and so does the destination, which then takes the right
+    one."""
     listening = pair.Side([str(program), "dest", "--listen", "127.0.0.1:0", *dest])
     listening.listening.wait(pair.PATIENCE)
     address = f"127.0.0.1:{listening.number('listening', 'port')}"
@@ -77,9 +87,14 @@ def refused(program, source, dest, text):
 
 def plans_that_differ(program):
     plan = ["--memory", "4M", "--threads", "2"]
-    for source, text in ((["--memory", "2M"], "pages of --memory: source 512, destination 1024"), (["--memory", "8M"], "pages of --memory"),
-                         (["--threads", "4"], "--threads: source 4, destination 2"), (["--seed", "2"], "another guest"),
-                         (["--given", "1"], "another guest"), (["--migration", "other"], "--migration: source `other`, destination `this`")):
+    for source, text in (
+        (["--memory", "2M"], "pages of --memory: source 512, destination 1024"),
+        (["--memory", "8M"], "pages of --memory"),
+        (["--threads", "4"], "--threads: source 4, destination 2"),
+        (["--seed", "2"], "another guest"),
+        (["--given", "1"], "another guest"),
+        (["--migration", "other"], "--migration: source `other`, destination `this`"),
+    ):
         dest = [*plan, "--migration", "this"]
         wrong = refused(program, [*dest, *source], dest, text)
         if wrong:
@@ -123,12 +138,17 @@ def lack_of_memory_at_the_destination(program):
             dest = pair.Side([str(program), "dest", "--listen", place, *plan], before=limited(space))
             dest.listening.wait(pair.PATIENCE)
             patience = [] if "listening" in dest.figures else ["--patience", "1"]
-            source = pair.Side([str(program), "source", "--connect", place, *plan, *pair.KEPT, *patience, "--rounds", "1"])
+            source = pair.Side(
+                [str(program), "source", "--connect", place, *plan, *pair.KEPT, *patience, "--rounds", "1"]
+            )
             status, text = source.end()
             dest.ask_end()
             dest_status, said = dest.end()
         found.add(dest_status)
-        if (dest_status, status) not in ((pair.REFUSED, pair.LOST), (pair.DONE, pair.DONE)) or (status == pair.LOST and "memory is right" not in text):
+        if (
+            (dest_status, status) not in ((pair.REFUSED, pair.LOST), (pair.DONE, pair.DONE))
+            or (status == pair.LOST and "memory is right" not in text)
+        ):
             return f"{space} bytes: source {status} {text}; destination {dest_status} {said}"
     return None if found == {pair.REFUSED, pair.DONE} else f"only {found}"
 
@@ -141,8 +161,13 @@ def lack_of_memory_at_the_source(program):
     for space in range(40 << 20, 150 << 20, 10 << 20):
         dest = pair.Side([str(program), "dest", "--listen", "127.0.0.1:0", "--memory", "32M", "--threads", "2"])
         dest.listening.wait(pair.PATIENCE)
-        source = start([program, "source", "--connect", f"127.0.0.1:{dest.number('listening', 'port')}", "--memory", "32M", "--threads", "2",
-                        *pair.KEPT, "--rounds", "1"], limited(space))
+        source = start(
+            [
+                program, "source", "--connect", f"127.0.0.1:{dest.number('listening', 'port')}", "--memory", "32M",
+                "--threads", "2", *pair.KEPT, "--rounds", "1",
+            ],
+            limited(space),
+        )
         status, said = ended(source)
         dest.ask_end()
         dest_status, text = dest.end()
@@ -222,7 +247,8 @@ def files_that_are_no_sockets(program):
 
 
 def cancelled_before_the_switch(program):
-    """By a signal, by a word, and by one after which the guest is to end at once; else it runs on until another one ends it."""
+    """By a signal, by a word, and by one after which the guest is to end at once; else it runs on until another one
+    ends it."""
     for way in ("", "cancel", "cancel\nend"):
         both = hurt.Watched(program, [*hurt.PRECOPY, "--after", "60000"])
         both.at("source precopy")
@@ -235,7 +261,12 @@ def cancelled_before_the_switch(program):
                 return "it is not kept"
             both.source.ask_end()
         said = both.source.end()
-        wrong = hurt.expect([("source", said, pair.LOST, "cancelled by the operator"), ("source", said, pair.LOST, "its memory is right")])
+        wrong = hurt.expect(
+            [
+                ("source", said, pair.LOST, "cancelled by the operator"),
+                ("source", said, pair.LOST, "its memory is right"),
+            ]
+        )
         both.dest.ask_end()
         both.dest.end()
         if wrong:
@@ -250,16 +281,27 @@ def not_cancelled_after_the_switch(program):
     answers = [both.source.order(word) for word in ("cancel", "end", "nothing", "status", "push-rate 0")]
     wrong = both.migration.finish()
     is_right = [answer.get("ok") for answer in answers] == [False, False, False, None, True] and answers[3]["switched"]
-    return wrong or (None if is_right and "the signal is refused" in both.source.text else f"{answers}, {both.source.text}")
+    return (
+        wrong
+        or (None if is_right and "the signal is refused" in both.source.text else f"{answers}, {both.source.text}")
+    )
 
 
 def a_control_socket_that_is_abused(program):
-    """More clients than there are places, lines that are none, lines without end, and answers that nobody reads; then a right word."""
+    """More clients than there are places, lines that are none, lines without end, and answers that nobody reads; then a
+    right word."""
     both = hurt.Watched(program, hurt.SLOW)
     both.at("destination running")
     place = both.dest.words[both.dest.words.index("--control") + 1].removeprefix("unix:")
     with contextlib.ExitStack() as stack:
-        for text in (b"x" * 100000, b"\n" * 5000, b"status\n" * 20000, b"watch\n" * 5, b"end 1\n\0\xff\n", b"patience 99999999999\n") * 2:
+        for text in (
+            b"x" * 100000,
+            b"\n" * 5000,
+            b"status\n" * 20000,
+            b"watch\n" * 5,
+            b"end 1\n\0\xff\n",
+            b"patience 99999999999\n",
+        ) * 2:
             client = stack.enter_context(socket.socket(socket.AF_UNIX))
             client.settimeout(0.2)
             with contextlib.suppress(OSError):
@@ -280,14 +322,24 @@ def a_rate_of_precopy(program):
 def bytes_on_the_urgent_connection(program):
     """A destination that sends there is refused by name, and takes no memory."""
     with socket.create_server(("127.0.0.1", 0)) as server:
-        source = pair.Side([str(program), "source", "--connect", f"127.0.0.1:{server.getsockname()[1]}", *hurt.MEMORY, *hurt.PRECOPY, *pair.KEPT])
+        source = pair.Side(
+            [
+                str(program), "source", "--connect", f"127.0.0.1:{server.getsockname()[1]}", *hurt.MEMORY,
+                *hurt.PRECOPY, *pair.KEPT,
+            ]
+        )
         main, urgent = server.accept()[0], server.accept()[0]
         with main, urgent, contextlib.suppress(OSError):
             main.sendall(hurt.hello())
             for _ in range(1000):
                 urgent.sendall(bytes(65536))
         said = source.end()
-    return hurt.expect([("source", said, pair.LOST, "bytes on the urgent connection"), ("source", said, pair.LOST, "its memory is right")])
+    return hurt.expect(
+        [
+            ("source", said, pair.LOST, "bytes on the urgent connection"),
+            ("source", said, pair.LOST, "its memory is right"),
+        ]
+    )
 
 
 class Flood:
@@ -332,7 +384,8 @@ class Flood:
 
 
 def floods_at_the_door(program):
-    """A source far away, by TLS where it is built in, whose connection is cut after the switch, while strangers come all the time."""
+    """A source far away, by TLS where it is built in, whose connection is cut after the switch, while strangers come
+    all the time."""
     for rate, text in ((300, b""), (300, b"\x16\x03\x01"), (1000, b"\x16")):
         with tempfile.TemporaryDirectory(prefix="live-") as folder:
             key = pair.new_key(folder) if pair.has_tls(program) else []
@@ -348,8 +401,17 @@ def floods_at_the_door(program):
 
 
 def cases_that_are_unknown(program):
-    done = subprocess.run([sys.executable, str(pair.FOLDER / "measure"), "--program", str(program), "nosuchcase"], capture_output=True, text=True, timeout=pair.PATIENCE)
-    return None if done.returncode == pair.REFUSED and "nosuchcase" in done.stdout + done.stderr else f"status {done.returncode}, {done.stdout}{done.stderr}"
+    done = subprocess.run(
+        [sys.executable, str(pair.FOLDER / "measure"), "--program", str(program), "nosuchcase"],
+        capture_output=True,
+        text=True,
+        timeout=pair.PATIENCE,
+    )
+    return (
+        None
+        if done.returncode == pair.REFUSED and "nosuchcase" in done.stdout + done.stderr
+        else f"status {done.returncode}, {done.stdout}{done.stderr}"
+    )
 
 
 def lines_with_times(program):
@@ -357,15 +419,17 @@ def lines_with_times(program):
     wrong = migration.finish()
     form = re.compile(r"live: \d\d:\d\d:\d\d\.\d{3}Z (source|destination): \S+, epoch \d+")
     for side in (migration.source, migration.dest):
-        for words in ("connected",), ("broken", "has come again"), ("epoch 2",):  # (the new connection may be seen before the old one's end)
+        # (the new connection may be seen before the old one's end)
+        for words in ("connected",), ("broken", "has come again"), ("epoch 2",):
             if not any(form.match(line) and word in line for line in side.text.splitlines() for word in words):
                 wrong = wrong or f"no line with `{words[0]}`: {side.text}"
     return wrong
 
 
 CASES = (
-    a_stopped_destination, a_stopped_source, half_open_connections, plans_that_differ, lack_of_memory_at_the_destination,
-    lack_of_memory_at_the_source, nobody_reads, descriptors_that_are_closed, full_disks, files_that_are_no_sockets, cancelled_before_the_switch,
-    not_cancelled_after_the_switch, a_control_socket_that_is_abused, a_rate_of_precopy, bytes_on_the_urgent_connection, floods_at_the_door,
+    a_stopped_destination, a_stopped_source, half_open_connections, plans_that_differ,
+    lack_of_memory_at_the_destination, lack_of_memory_at_the_source, nobody_reads, descriptors_that_are_closed,
+    full_disks, files_that_are_no_sockets, cancelled_before_the_switch, not_cancelled_after_the_switch,
+    a_control_socket_that_is_abused, a_rate_of_precopy, bytes_on_the_urgent_connection, floods_at_the_door,
     cases_that_are_unknown, lines_with_times,
 )

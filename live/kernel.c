@@ -26,7 +26,7 @@
 /* A thread without a processor cannot finish its call. The driver yields this number of times before it sleeps. */
 #define YIELDS 8u
 #define LEAST_NICE (-20)
-/* Ranges of one process_madvise(2), which takes as many as writev(2). */
+/* Ranges of one process_madvise(2), which takes at most what writev(2) does. */
 #define MOST_RANGES 1024u
 
 uint64_t kernel_now(void)
@@ -273,7 +273,7 @@ int kernel_wake(int userfault, char *at)
     return call_userfault(userfault, UFFDIO_WAKE, "UFFDIO_WAKE", &range);
 }
 
-/* (a fault of the kernel's own, in the place of the process, does not wait for a userfaultfd: the call fails) */
+/* (a fault of the kernel's own, on behalf of the process, does not wait for a userfaultfd: the call fails) */
 bool kernel_peek(const char *at, size_t bytes, void *to)
 {
     static _Thread_local int file = -1;

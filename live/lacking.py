@@ -1,5 +1,5 @@
-"""After the switch: memory that is lacking, answers of the kernel that nobody expects. Before it: a place at the door that is taken by the wrong one.
-Each case returns what is wrong, or None."""
+"""After the switch: memory that is lacking, answers of the kernel that nobody expects. Before it: a place at the door
+that is taken by the wrong one. Each case returns what is wrong, or None."""
 
 import contextlib
 import pathlib
@@ -13,7 +13,7 @@ import pair
 
 FAULTY = pair.FOLDER / "out/faulty.so"
 # Requests of ioctl(2), and errnos.
-COPY, ZEROPAGE, UNREGISTER = "c028aa03", "c020aa04", "8010aa01"
+COPY, UNREGISTER = "c028aa03", "8010aa01"
 CALL = "UFFDIO_UNREGISTER"
 ENOMEM, EEXIST, EINVAL = 12, 17, 22
 TRIED, PLACE = "it is tried until there is", ["--silence", "1", *kept.SMALL]
@@ -69,7 +69,9 @@ def memory_at_the_source(program):
 
 def answers_that_nobody_expects(program):
     """Of the kernel: the destination keeps what it has, says so, and is ended by one word alone. The source stays."""
-    for call, error, text in () if kept.is_sanitized(program) else ((COPY, EEXIST, "UFFDIO_COPY of page"), (COPY, EINVAL, "UFFDIO_COPY of page")):
+    for call, error, text in () if kept.is_sanitized(program) else (
+        (COPY, EEXIST, "UFFDIO_COPY of page"), (COPY, EINVAL, "UFFDIO_COPY of page")
+    ):
         with tempfile.TemporaryDirectory(prefix="live-") as folder:
             faulty = Faulty(program, "dest", call, error, folder)
             both = faulty.both
@@ -83,7 +85,10 @@ def answers_that_nobody_expects(program):
             both.source.order("abandon")
             both.source.end()
         wrong = hurt.expect([("destination", said, pair.REFUSED, text)])
-        if wrong or not (is_held and is_refused and is_there and answers[0] is False and text in answers[1] and answers[2]):
+        if (
+            wrong
+            or not (is_held and is_refused and is_there and answers[0] is False and text in answers[1] and answers[2])
+        ):
             return wrong or f"{answers}, {said[1]}"
     return None
 
@@ -100,7 +105,9 @@ def a_source_that_is_held(program):
         is_held = source.says(pair.HELD)
         source.ask_end()
         is_refused = source.says("the signal is refused: it has stopped, and keeps what it has: abandon ends it")
-        answers = source.order("end").get("ok"), source.status("switched"), source.status("kept"), source.status("stopped_by")
+        answers = (
+            source.order("end").get("ok"), source.status("switched"), source.status("kept"), source.status("stopped_by")
+        )
         stays = is_held and is_refused and answers[:3] == (False, True, False) and CALL in answers[3]
         source.order("abandon")
         said = source.end()
@@ -118,7 +125,9 @@ def held_without_a_socket(program):
         dest = pair.Side([*faults(file, COPY, EINVAL), str(program), "dest", "--listen", "127.0.0.1:0", *plan])
         dest.listening.wait(pair.PATIENCE)
         address = f"127.0.0.1:{dest.number('listening', 'port')}"
-        source = pair.Side([str(program), "source", "--connect", address, *plan, *hurt.SLOW, "--control", f"unix:{folder}/control"])
+        source = pair.Side(
+            [str(program), "source", "--connect", address, *plan, *hurt.SLOW, "--control", f"unix:{folder}/control"]
+        )
         runs = pair.wait_until(lambda: dest.figures.get("progress", {}).get("phase") == "running")
         file.touch()
         is_held = dest.says(pair.HELD)
@@ -139,7 +148,9 @@ def listening(program):
     dest.listening.wait(pair.PATIENCE)
     place = ("127.0.0.1", dest.number("listening", "port"))
     try:
-        yield dest, place, lambda *words: pair.Side([str(program), "source", "--connect", "{}:{}".format(*place), *PLACE, *pair.KEPT, *words])
+        yield dest, place, lambda *words: pair.Side(
+            [str(program), "source", "--connect", "{}:{}".format(*place), *PLACE, *pair.KEPT, *words]
+        )
     finally:
         dest.process.kill()
         dest.end()
@@ -185,7 +196,8 @@ def another_source_before_the_switch(program):
         has_sent = pair.wait_until(lambda: gone.number("progress", "sent") > 100)
         gone.process.kill()
         gone.end()
-        time.sleep(1.5)  # (so that the other one comes in its first epoch, in which nothing but a new node takes the copies away)
+        # (the other one comes in its first epoch, in which nothing but a new node takes the copies away)
+        time.sleep(1.5)
         return both_done(dest, source_of("--rounds", "0")) or (None if has_sent else "it has sent nothing")
 
 
@@ -206,7 +218,9 @@ def another_source_after_the_promise(program):
                 return "the guest does not run"
             connection.close()
             time.sleep(1.5)  # (for longer than it may be silent)
-            wrong = hurt.expect([("another source", source_of().end(), pair.LOST, "this destination serves another source")])
+            wrong = hurt.expect(
+                [("another source", source_of().end(), pair.LOST, "this destination serves another source")]
+            )
             dest.ask_end()
             if wrong or not dest.says("the signal is refused: the"):
                 return wrong or f"{flags}, {sign[:40]}: the signal is not refused: {dest.said}"
@@ -216,8 +230,12 @@ def another_source_after_the_promise(program):
 def no_switch_without_the_promise(program):
     """A source asks for it, and waits; a destination that gives it gets the Package."""
     with socket.create_server(("127.0.0.1", 0)) as server, tempfile.TemporaryDirectory(prefix="live-") as folder:
-        source = pair.Side([str(program), "source", "--connect", f"127.0.0.1:{server.getsockname()[1]}", *PLACE, "--rounds", "0", "--no-urgent",
-                            "--control", f"unix:{folder}/control"])
+        source = pair.Side(
+            [
+                str(program), "source", "--connect", f"127.0.0.1:{server.getsockname()[1]}", *PLACE, "--rounds", "0",
+                "--no-urgent", "--control", f"unix:{folder}/control",
+            ]
+        )
         with server.accept()[0] as destination:
             destination.sendall(hurt.hello(memory=8, flags=5))
             destination.settimeout(pair.PATIENCE)

@@ -16,7 +16,7 @@ static const char *path_of(const struct address *address)
     return ((const struct sockaddr_un *)(const void *)&address->name)->sun_path;
 }
 
-/* A socket where nobody listens refuses a connection. (What is no socket does that too.) */
+/* A socket where nobody listens refuses a connection. (What is not a socket does that too.) */
 void local_remove_stale(const struct address *address)
 {
     struct stat status;

@@ -1,5 +1,5 @@
-"""Cases of TLS: a right and a wrong key, none, strangers in the handshake, connections that are cut at any byte. Each returns what is wrong, or
-None."""
+"""Cases of TLS: a right and a wrong key, none, strangers in the handshake, connections that are cut at any byte. Each
+returns what is wrong, or None."""
 
 import concurrent.futures
 import contextlib
@@ -20,10 +20,12 @@ MEMORY = ["--memory", "8M", "--cold", "16", "--threads", "3", "--given", "1", "-
 BROKEN = "the connection is broken"
 STRANGERS = 64
 CUTS = 16
-# The begin of a ClientHello, a record longer than TLS allows, a message of 16 MiB, an alert, and what is no TLS.
+# The begin of a ClientHello, a record longer than TLS allows, a message of 16 MiB, an alert, and what is not TLS.
 BEGUN = bytes.fromhex("16030100c8010000c40303") + bytes(20)
-HALVES = (b"", b"\x16", BEGUN, b"\x16\x03\x01\xff\xff" + bytes(60), b"\x16\x03\x01\x40\x00\x01\xff\xff\xff" + bytes(16380),
-          b"\x15\x03\x03\x00\x02\x02\x28", b"GET / HTTP/1.1\r\n\r\n", hurt.hello())
+HALVES = (
+    b"", b"\x16", BEGUN, b"\x16\x03\x01\xff\xff" + bytes(60), b"\x16\x03\x01\x40\x00\x01\xff\xff\xff" + bytes(16380),
+    b"\x15\x03\x03\x00\x02\x02\x28", b"GET / HTTP/1.1\r\n\r\n", hurt.hello(),
+)
 
 
 def folder():
@@ -40,7 +42,8 @@ def source_of(program, address, words, text=""):
 
 
 def lets_in_only(program, key, others):
-    """A destination with this key or none turns each of these sources away, whose guests run on; and then lets the right one in."""
+    """A destination with this key or none turns each of these sources away, whose guests run on; and then lets the
+    right one in."""
     dest = pair.Side([str(program), "dest", "--listen", "127.0.0.1:0", *MEMORY, *key])
     dest.listening.wait(pair.PATIENCE)
     address = f"127.0.0.1:{dest.number('listening', 'port')}"
@@ -60,8 +63,16 @@ def keys_at_the_door(program):
         same = pathlib.Path(name, "same")
         same.write_text(pathlib.Path(key[1]).read_text().replace("guest:", "somebody:"))
         same.chmod(0o600)
-        return lets_in_only(program, key, (("another key", other, "TLS: "), ("another user", user, "TLS: "),
-                                           ("another user with the key", ["--psk", str(same)], "TLS: "), ("no key", ["--patience", "1"], "")))
+        return lets_in_only(
+            program,
+            key,
+            (
+                ("another key", other, "TLS: "),
+                ("another user", user, "TLS: "),
+                ("another user with the key", ["--psk", str(same)], "TLS: "),
+                ("no key", ["--patience", "1"], ""),
+            ),
+        )
 
 
 def key_at_a_plain_door(program):
@@ -81,7 +92,9 @@ def strangers_take_no_memory(program):
 
     with folder() as name:
         key = pair.new_key(name)
-        dest = pair.Side([str(program), "dest", "--listen", "127.0.0.1:0", "--control", f"unix:{name}/control", *MEMORY, *key])
+        dest = pair.Side(
+            [str(program), "dest", "--listen", "127.0.0.1:0", "--control", f"unix:{name}/control", *MEMORY, *key]
+        )
         dest.listening.wait(pair.PATIENCE)
         address = f"127.0.0.1:{dest.number('listening', 'port')}"
         before = resident(dest)
@@ -93,20 +106,31 @@ def strangers_take_no_memory(program):
         wrong = hurt.expect([("source", source_of(program, address, key), pair.DONE, "")])
         dest.ask_end()
         wrong = wrong or hurt.expect([("destination", dest.end(), pair.DONE, "")])
-    return wrong or (None if are_gone and grown < 4 << 20 else f"{grown} bytes after {STRANGERS} strangers, turned away: {are_gone}")
+    return (
+        wrong
+        or (
+            None
+            if are_gone and grown < 4 << 20
+            else f"{grown} bytes after {STRANGERS} strangers, turned away: {are_gone}"
+        )
+    )
 
 
 def listener_without_tls(program):
-    """It says nothing, or what is no TLS: the guest runs on at the source."""
+    """It says nothing, or what is not TLS: the guest runs on at the source."""
     with folder() as name:
         key = pair.new_key(name)
         for answer in (b"", b"HTTP/1.1 200 OK\r\n\r\n", b"\x15\x03\x03\x00\x02\x02\x28", BEGUN, bytes(100)):
             with socket.create_server(("127.0.0.1", 0)) as server:
                 address = f"127.0.0.1:{server.getsockname()[1]}"
-                source = pair.Side([str(program), "source", "--connect", address, *MEMORY, *pair.KEPT, "--patience", "1", *key])
+                source = pair.Side(
+                    [str(program), "source", "--connect", address, *MEMORY, *pair.KEPT, "--patience", "1", *key]
+                )
                 with server.accept()[0] as connection:
                     connection.sendall(answer)
-                    wrong = hurt.expect([(f"source that hears {answer!r}", source.end(), pair.LOST, "its memory is right")])
+                    wrong = hurt.expect(
+                        [(f"source that hears {answer!r}", source.end(), pair.LOST, "its memory is right")]
+                    )
             if wrong:
                 return wrong
     return None
@@ -118,8 +142,14 @@ def listener_with_a_certificate(program):
         return None
     with folder() as name, socket.create_server(("127.0.0.1", 0)) as server:
         files = [f"{name}/{part}.pem" for part in ("certificate", "secret")]
-        subprocess.run(["openssl", "req", "-x509", "-newkey", "ec", "-pkeyopt", "ec_paramgen_curve:P-256", "-nodes", "-subj", "/CN=live", "-days", "2",
-                        "-out", files[0], "-keyout", files[1]], check=True, capture_output=True)
+        subprocess.run(
+            [
+                "openssl", "req", "-x509", "-newkey", "ec", "-pkeyopt", "ec_paramgen_curve:P-256", "-nodes", "-subj",
+                "/CN=live", "-days", "2", "-out", files[0], "-keyout", files[1],
+            ],
+            check=True,
+            capture_output=True,
+        )
         context = ssl.SSLContext(ssl.PROTOCOL_TLS_SERVER)
         context.load_cert_chain(*files)
         address = f"127.0.0.1:{server.getsockname()[1]}"
@@ -131,18 +161,37 @@ def listener_with_a_certificate(program):
                     connection.settimeout(2)
                     if context.wrap_socket(connection, server_side=True).recv(1):
                         return "it is taken for the destination"
-        return hurt.expect([("source", source.result(), pair.LOST, "TLS: "), ("source", source.result(), pair.LOST, "its memory is right")])
+        return hurt.expect(
+            [
+                ("source", source.result(), pair.LOST, "TLS: "),
+                ("source", source.result(), pair.LOST, "its memory is right"),
+            ]
+        )
 
 
 def cut_at_any_byte(program):
-    """Of what is on the wire, handshakes included, in both directions: at any byte that each epoch sends, whatever the machine does."""
+    """Of what is on the wire, handshakes included, in both directions: at any byte that each epoch sends, whatever the
+    machine does."""
     choice = random.Random(7)
     for is_handed in (False, True):
-        cuts = [choice.choice((("out", choice.randrange(choice.choice((8, 400, 2000, 100000)))), ("in", choice.randrange(choice.choice((8, 300))))))
-                for _ in range(CUTS)]
+        cuts = [
+            choice.choice(
+                (
+                    ("out", choice.randrange(choice.choice((8, 400, 2000, 100000)))),
+                    ("in", choice.randrange(choice.choice((8, 300)))),
+                )
+            )
+            for _ in range(CUTS)
+        ]
         with folder() as name:
-            migration = pair.Migration([*MEMORY, *pair.new_key(name), "--progress"], ["--rounds", "1", "--target", "0"], ["--check-owed"], program,
-                                       cuts=cuts, is_handed=is_handed)
+            migration = pair.Migration(
+                [*MEMORY, *pair.new_key(name), "--progress"],
+                ["--rounds", "1", "--target", "0"],
+                ["--check-owed"],
+                program,
+                cuts=cuts,
+                is_handed=is_handed,
+            )
             wrong = migration.finish()
         if wrong or migration.relay.made < CUTS:
             return wrong or f"only {migration.relay.made} connections"
@@ -151,10 +200,17 @@ def cut_at_any_byte(program):
 
 def keys_that_are_none(program):
     with folder() as name:
-        for text, mode, said in (("guest:00112233445566778899aabbccddeeff\n", 0o600, None), ("guest:00112233445566778899aabbccddeeff\n", 0o640, "others may read"),
-                                 ("", 0o600, "USER:HEXKEY"), (":00112233445566778899aabbccddeeff\n", 0o600, "USER:HEXKEY"), ("guest:0011\n", 0o600, "USER:HEXKEY"),
-                                 ("guest:00112233445566778899aabbccddeefg\n", 0o600, "USER:HEXKEY"), ("guest:00112233445566778899aabbccddeef\n", 0o600, "USER:HEXKEY"),
-                                 (f"guest:{'ab' * 65}\n", 0o600, "USER:HEXKEY"), ("x" * 200 + ":00112233445566778899aabbccddeeff\n", 0o600, "USER:HEXKEY")):
+        for text, mode, said in (
+            ("guest:00112233445566778899aabbccddeeff\n", 0o600, None),
+            ("guest:00112233445566778899aabbccddeeff\n", 0o640, "others may read"),
+            ("", 0o600, "USER:HEXKEY"),
+            (":00112233445566778899aabbccddeeff\n", 0o600, "USER:HEXKEY"),
+            ("guest:0011\n", 0o600, "USER:HEXKEY"),
+            ("guest:00112233445566778899aabbccddeefg\n", 0o600, "USER:HEXKEY"),
+            ("guest:00112233445566778899aabbccddeef\n", 0o600, "USER:HEXKEY"),
+            (f"guest:{'ab' * 65}\n", 0o600, "USER:HEXKEY"),
+            ("x" * 200 + ":00112233445566778899aabbccddeeff\n", 0o600, "USER:HEXKEY"),
+        ):
             file = pathlib.Path(name, "key")
             file.write_text(text)
             os.chmod(file, mode)
@@ -167,5 +223,7 @@ def keys_that_are_none(program):
     return None
 
 
-CASES = (keys_at_the_door, key_at_a_plain_door, strangers_in_the_handshake, strangers_take_no_memory, listener_without_tls,
-         listener_with_a_certificate, cut_at_any_byte, keys_that_are_none)
+CASES = (
+    keys_at_the_door, key_at_a_plain_door, strangers_in_the_handshake, strangers_take_no_memory, listener_without_tls,
+    listener_with_a_certificate, cut_at_any_byte, keys_that_are_none,
+)

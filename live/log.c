@@ -88,7 +88,7 @@ static void fill_closed(void)
 {
     for (int file = STDIN_FILENO; file <= STDERR_FILENO; file++)
         if (fcntl(file, F_GETFD) < 0 && open("/dev/null", O_RDWR) != file)
-            _Exit(STATUS_REFUSED); /* nobody could be told */
+            _Exit(STATUS_REFUSED); /* no one would hear of it */
 }
 
 void log_open(void)

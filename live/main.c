@@ -375,7 +375,7 @@ static void set_option(struct options *options, int option, const char *name, ch
     }
 }
 
-/* As many as memory needs, unless there are more. */
+/* What memory needs, unless there are more. */
 static void set_slices(struct options *options)
 {
     const struct guest_plan *plan = &options->plan;

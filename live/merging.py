@@ -1,7 +1,7 @@
 """Two traces, each the steps of one node in its own order, become one script of the whole world.
 
-A trace has a line `ORDER => ANSWER` for each step that its node has made, in the words of docs/SCRIPT.md, as postmig_node_trace_take gives
-them. Lines that begin with # are comments; these count:
+A trace has a line `ORDER => ANSWER` for each step that its node has made, in the words of docs/SCRIPT.md, as
+postmig_node_trace_take gives them. Lines that begin with # are comments; these count:
 
     # cpus N             the first line: the processors of the guest
     # epoch N            at the destination, between one `deliver => took resume` and the next: the epoch of that Resume
@@ -24,14 +24,16 @@ What an order must keep:
 - the steps of each node, as they are in its trace;
 - a frame is taken after it was sent, and the frames of a wire in the order in which they were sent, within an epoch;
 - an epoch ends with a `break`, after all that either node has taken in it, and before the first `notice` of its end;
-- `resume` comes once both nodes have noticed.
+- `resume` follows once both nodes have noticed.
 
-A destination may have taken the place of one that has not run: then its trace begins with `notice dest` and a Resume. In place of those that
-are gone the script has a destination that took each Resume which one of them answered, and nothing else, since a Resume makes destinations
-that have not run alike. That is refused once the source has switched: one of those may have run the guest.
+A destination may have taken the place of one that has not run: then its trace begins with `notice dest` and a Resume.
+In place of those that are gone the script has a destination that took each Resume which one of them answered, and
+nothing else, since a Resume makes destinations that have not run alike. That is refused once the source has switched:
+one of those may have run the guest.
 
-A frame that was sent and not taken is lost by the break. Laws say that such orders are runs of a world, with the same results at both nodes
-(docs/PROTOCOL.md, Two nodes are a world); that what is made here is such an order is tested (bench/compare/merge.py). Which Resume of the source a destination has taken follows from the frames, and where two
+A frame that was sent and not taken is lost by the break. Laws say that such orders are runs of a world, with the same
+results at both nodes (docs/PROTOCOL.md, Two nodes are a world); that what is made here is such an order is tested
+(bench/compare/merge.py). Which Resume of the source a destination has taken follows from the frames, and where two
 would fit, from the comment `# epoch N`, or else it is the earliest.
 """
 
@@ -46,19 +48,23 @@ import sys
 SOURCE, DEST = "source", "destination"
 # What each node's steps are called, and those that need the channel.
 ORDERS = {
-    SOURCE: {"cpu", "retry", "start", "round", "send", "sendrun", "sread", "sact", "switch", "push", "upush", "serve", "end", "back",
-             "notice source", "resume"},
+    SOURCE: {
+        "cpu", "retry", "start", "round", "send", "sendrun", "sread", "sact", "switch", "push", "upush", "serve", "end",
+        "back", "notice source", "resume",
+    },
     DEST: {"cpu", "retry", "deliver", "udeliver", "dread", "dact", "install", "notice dest"},
 }
 LINKED = {"send", "sendrun", "switch", "push", "upush", "serve", "end", "back", "deliver", "udeliver"}
-NOTICES = {"notice source", "notice dest"}
 # Lines of comments at the top of a script.
 HEAD = 2
 # A frame whose count the trace of its sender does not tell.
 ANY = " *"
 NOT_RUN = "recv notrun 0"
 # The lines that a destination which is gone makes between two epochs of the source in which it has answered a Resume.
-OF_GONE = ((0, "notice dest", "paused dest", "notice dest => paused dest"), (0, "deliver", "took resume", "deliver => took resume"))
+OF_GONE = (
+    (0, "notice dest", "paused dest", "notice dest => paused dest"),
+    (0, "deliver", "took resume", "deliver => took resume"),
+)
 # Answers of which a part is read here.
 READ = {
     "start": re.compile(r"started epoch \d{1,10}$"),
@@ -76,7 +82,7 @@ DIFFERS = re.compile(r"-:(\d+): (expected .*|not a line of a test)")
 
 
 class Unreadable(Exception):
-    """A file that is no trace."""
+    """A file that is not a trace."""
 
 
 class NoOrder(Exception):
@@ -140,7 +146,8 @@ class Trace:
         return f"{place(self.name, number)}: {line}"
 
     def after(self, gone):
-        """This destination's, after those that are gone: they have answered a Resume in each of these epochs of the source."""
+        """This destination's, after those that are gone: they have answered a Resume in each of these epochs of the
+        source."""
         trace = copy.copy(self)
         trace.steps = [*(step for _ in gone for step in OF_GONE), *self.steps]
         trace.epochs = {count: epoch.number for count, epoch in enumerate(gone, 1)}
@@ -184,8 +191,8 @@ class NoJudge(Exception):
 
 
 class Epoch:
-    """What a node has sent and taken from one `start` or Resume to the next: for each wire the frames, in order, each with the index of its
-    step. `end` is after the last step that needs the channel."""
+    """What a node has sent and taken from one `start` or Resume to the next: for each wire the frames, in order, each
+    with the index of its step. `end` is after the last step that needs the channel."""
 
     def __init__(self, begin, number=None):
         self.begin, self.end, self.number, self.notice = begin, begin, number, None
@@ -233,13 +240,16 @@ ACTS = {"sact", "dact", "install"}
 
 
 def never_retried(trace):
-    """The first step of a trace that has woken a processor which makes its access never again, or, where that step is the read of an event, not
-    before the next fault is resolved or copy installed; as a text, or None. No step of either node needs that it does: its thread sleeps on."""
+    """The first step of a trace that has woken a processor which makes its access never again, or, where that step is
+    the read of an event, not before the next fault is resolved or copy installed; as a text, or None. No step of either
+    node needs that it does: its thread sleeps on."""
     asleep, woken, by_event = {}, {}, set()
     for index, (_, kind, answer, line) in enumerate(trace.steps):
         if by_event and kind in ACTS:
             cpu = min(by_event)
-            return f"{trace.at(woken[cpu])}: processor {cpu} is woken, and not retried before line {trace.steps[index][0]}"
+            return (
+                f"{trace.at(woken[cpu])}: processor {cpu} is woken, and not retried before line {trace.steps[index][0]}"
+            )
         waits, wakes, event = WAITS.match(line), WAKES.match(answer), EVENT.match(answer)
         if waits:
             asleep[waits[1]] = int(waits[2], 16) // PAGE_BYTES
@@ -302,7 +312,8 @@ class Sums:
 
 
 class Requests:
-    """What the destination sends back: a page is requested once, and all that are not installed once more after a Resume."""
+    """What the destination sends back: a page is requested once, and all that are not installed once more after a
+    Resume."""
 
     def __init__(self):
         self.pages, self.state, self.is_paused = {}, "notrun", False
@@ -366,7 +377,8 @@ def has_report(epoch):
 
 
 def may_be_one(own, other):
-    """Whether these epochs of the source and of the destination may be one, by their numbers and the kinds of their frames."""
+    """Whether these epochs of the source and of the destination may be one, by their numbers and the kinds of their
+    frames."""
     if other.number is not None and own.number is not None and other.number != own.number:
         return False
     is_more = len(other.taken["main"]) + len(other.taken["urgent"]) > 1
@@ -380,8 +392,8 @@ def are_one(own, other):
 
 
 def pair(own, others, fits):
-    """For each epoch of the destination but the first, the place of that of the source: the earliest that fit, or None. Each epoch in which
-    the source has taken a report has one."""
+    """For each epoch of the destination but the first, the place of that of the source: the earliest that fit, or None.
+    Each epoch in which the source has taken a report has one."""
     must = [has_report(epoch) for epoch in own]
     known = {}
     sys.setrecursionlimit(max(sys.getrecursionlimit(), 4 * len(others) + 1000))  # (one call for each epoch)
@@ -440,10 +452,15 @@ class Merge:
         return [step[1:3] for step in self.dest.steps[:2]] == [step[1:3] for step in OF_GONE]
 
     def pair_newcomer(self, fits):
-        """The pairs, with lines for the destinations whose place this one has taken before the switch; None if it has taken none's."""
-        switch = next((index for index, step in enumerate(self.source.steps) if step[1] == "switch"), len(self.source.steps))
+        """The pairs, with lines for the destinations whose place this one has taken before the switch; None if it has
+        taken none's."""
+        switch = next(
+            (index for index, step in enumerate(self.source.steps) if step[1] == "switch"), len(self.source.steps)
+        )
         reports = [epoch for epoch in self.own if has_report(epoch)] if self.is_newcomer() else []
-        gone = itertools.takewhile(lambda epoch: [frame for frame, _ in epoch.taken["back"]] == [NOT_RUN] and epoch.begin < switch, reports)
+        gone = itertools.takewhile(
+            lambda epoch: [frame for frame, _ in epoch.taken["back"]] == [NOT_RUN] and epoch.begin < switch, reports
+        )
         for count, _ in enumerate(gone, 1):
             dest = self.dest.after(reports[:count])
             others = epochs_of_destination(dest)
@@ -454,15 +471,24 @@ class Merge:
         return None
 
     def fail_to_pair(self):
-        """The first Resume for which the source has no epoch, or the first report for which the destination has none."""
+        """The first Resume for which the source has no epoch, or the first report for which the destination has
+        none."""
         resumes, reports = len(self.others) - 1, [epoch for epoch in self.own if has_report(epoch)]
         if resumes > len(self.own) - 1:
-            raise NoOrder(f"{self.dest.at(self.others[len(self.own)].begin)}: the source has resumed {len(self.own) - 1} times "
-                          f"({self.source.name})")
+            raise NoOrder(
+                f"{self.dest.at(self.others[len(self.own)].begin)}: the source has resumed {len(self.own) - 1} times "
+                f"({self.source.name})"
+            )
         if resumes < len(reports):
             index = next(index for frame, index in reports[resumes].taken["back"] if frame.startswith("recv "))
-            why = "; it can have taken no other one's place: one that has run answered, or the source had switched" if self.is_newcomer() else ""
-            raise NoOrder(f"{self.source.at(index)}: the destination has taken {resumes} times a Resume ({self.dest.name}){why}")
+            why = (
+                "; it can have taken no other one's place: one that has run answered, or the source had switched"
+                if self.is_newcomer()
+                else ""
+            )
+            raise NoOrder(
+                f"{self.source.at(index)}: the destination has taken {resumes} times a Resume ({self.dest.name}){why}"
+            )
         last = self.others[-1]
         raise NoOrder(f"{self.dest.at(last.begin)}: no epoch of the source is that of this Resume"
                       f"{'' if last.number is None else f', {last.number}'} ({self.source.name})")
@@ -481,9 +507,14 @@ class Merge:
     def fail_to_take(self, sender, sent, taker, index, place):
         if place < len(sent):
             frame, by = sent[place]
-            raise NoOrder(f"{taker.at(index)}: the next frame of this wire is {frame.removesuffix(ANY)}, of {sender.at(by)}")
+            raise NoOrder(
+                f"{taker.at(index)}: the next frame of this wire is {frame.removesuffix(ANY)}, of {sender.at(by)}"
+            )
         last = f"; the last was sent by {sender.at(sent[-1][1])}" if sent else ""
-        raise NoOrder(f"{taker.at(index)}: the {sender.side} has sent no more frames on this wire in this epoch ({sender.name}){last}")
+        raise NoOrder(
+            f"{taker.at(index)}: the {sender.side} has sent no more frames on this wire in this epoch "
+            f"({sender.name}){last}"
+        )
 
     def join_breaks(self, place_of):
         """One break after each epoch but the last, and after that too if either has noticed one."""
@@ -505,24 +536,32 @@ class Merge:
     def end_epoch(self, own, other, x, is_resumed):
         self.check_notice(self.dest, other)
         if other.notice is None and is_resumed:
-            raise NoOrder(f"{self.source.at(self.own[x + 1].begin)}: the destination has not noticed the end of the epoch before "
-                          f"({self.dest.name})")
+            raise NoOrder(
+                f"{self.source.at(self.own[x + 1].begin)}: the destination has not noticed the end of the epoch before "
+                f"({self.dest.name})"
+            )
         if other.notice is None:
             return
         released = [index for frame, index in own.taken["back"] if frame == "done" or frame.startswith("recv ended")]
         if released:
-            raise NoOrder(f"{self.dest.at(other.notice)}: the migration is complete by {self.source.at(released[0])}, and no break follows it")
+            raise NoOrder(
+                f"{self.dest.at(other.notice)}: the migration is complete by {self.source.at(released[0])}, and no "
+                "break follows it"
+            )
         self.breaks_of_dest[other.notice] = x
         if is_resumed:
             self.source_waits[self.own[x + 1].begin] = other.notice
 
     def check_notice(self, trace, epoch):
         if epoch.notice is not None and epoch.end > epoch.notice:
-            raise NoOrder(f"{trace.at(epoch.end - 1)}: the {trace.side} has noticed a break before, at line {trace.steps[epoch.notice][0]}")
+            raise NoOrder(
+                f"{trace.at(epoch.end - 1)}: the {trace.side} has noticed a break before, at line "
+                f"{trace.steps[epoch.notice][0]}"
+            )
 
     def order(self, choose):
-        """Yields (trace, index) for each step, and (None, 0) for a break. choose: which of several may come next, by 0, 1, and 2 of a
-        break."""
+        """Yields (trace, index) for each step, and (None, 0) for a break. choose: which of several may come next, by 0,
+        1, and 2 of a break."""
         own, others = len(self.source.steps), len(self.dest.steps)
         i = j = broken = 0
         source_waits, dest_waits = self.source_waits.get, self.dest_waits.get
@@ -607,7 +646,11 @@ class Script:
                 self.origins.append((trace.name, number))
 
     def text(self, has_answers=True):
-        lines = self.lines if has_answers else (line if line[:1] == "#" else line.partition(" => ")[0] for line in self.lines)
+        lines = (
+            self.lines
+            if has_answers
+            else (line if line[:1] == "#" else line.partition(" => ")[0] for line in self.lines)
+        )
         return "".join(itertools.chain.from_iterable((line, "\n") for line in lines))
 
     def judged(self, program):
@@ -615,7 +658,9 @@ class Script:
         retried, or bytes that are not those that were sent, as a text, or None. OSError if it cannot judge, NoJudge
         without a proved program."""
         environment = {**os.environ, "POSTMIG_PROVED_ONLY": "1"}
-        done = subprocess.run([program, "test", "--strict"], input=self.text(), capture_output=True, text=True, env=environment)
+        done = subprocess.run(
+            [program, "test", "--strict"], input=self.text(), capture_output=True, text=True, env=environment
+        )
         if done.returncode == 0:
             return next(filter(None, map(never_retried, self.traces)), None) or self.sums.differs
         if "no proved build" in done.stderr:

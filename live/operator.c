@@ -32,7 +32,7 @@ static struct {
     struct client client[MOST_CLIENTS];
     uint32_t turn;      /* the place that was taken last from somebody, */
     uint32_t heard;     /* and that of the client that was heard last */
-    uint64_t next;      /* when those who watch are told again; */
+    uint64_t next;      /* when those who watch hear again; */
     uint64_t next_look; /* and when an order is looked for again */
     uint32_t in_a_row;  /* of them */
     bool is_warned;     /* a signal to a side that does nothing more was refused */

@@ -1,5 +1,5 @@
-"""Programs of somebody's own: those of examples/monitor are built in an empty folder, from the words that liblive has for a compiler, and take the
-parts of live one by one. Each case returns what is wrong, or None."""
+"""Programs of somebody's own: those of examples/monitor are built in an empty folder, from the words that liblive has
+for a compiler, and take the parts of live one by one. Each case returns what is wrong, or None."""
 
 import os
 import pathlib
@@ -16,7 +16,8 @@ PAGES, SIZE = 2048, "8M"
 
 
 class Folder(tempfile.TemporaryDirectory):
-    """Some of the programs, and what they write. The door is the Unix socket at which a monitor hands its memory over."""
+    """Some of the programs, and what they write. The door is the Unix socket at which a monitor hands its memory
+    over."""
 
     def __init__(self, program, *names):
         super().__init__(prefix="owned-")
@@ -24,12 +25,26 @@ class Folder(tempfile.TemporaryDirectory):
         self.door = f"unix:{self.at}/door"
         words = f"@{pathlib.Path(program).resolve().parent}/liblive.words"
         for name in names:
-            subprocess.run([*shlex.split(os.environ.get("CC", "cc")), EXAMPLES / f"{name}.c", "-o", self.at / name, words], check=True, cwd=self.at)
+            subprocess.run(
+                [*shlex.split(os.environ.get("CC", "cc")), EXAMPLES / f"{name}.c", "-o", self.at / name, words],
+                check=True,
+                cwd=self.at,
+            )
 
     def finish(self, *commands):
         """The first one that fails or does not end, with what it said; or None. They are started together."""
-        processes = [subprocess.Popen(command, cwd=self.at, stdin=subprocess.DEVNULL, stdout=subprocess.DEVNULL, stderr=subprocess.PIPE, text=True,
-                                      start_new_session=True) for command in commands]
+        processes = [
+            subprocess.Popen(
+                command,
+                cwd=self.at,
+                stdin=subprocess.DEVNULL,
+                stdout=subprocess.DEVNULL,
+                stderr=subprocess.PIPE,
+                text=True,
+                start_new_session=True,
+            )
+            for command in commands
+        ]
         wrong = None
         for process in processes:
             try:
@@ -48,7 +63,9 @@ class Folder(tempfile.TemporaryDirectory):
             return f"the source's memory has {len(here)} bytes, or none but 0"
         if there == here:
             return None
-        return f"byte {next((i for i, (one, other) in enumerate(zip(there, here)) if one != other), min(len(there), len(here)))} differs"
+        return (
+            f"byte {next((i for i, (one, other) in enumerate(zip(there, here)) if one != other), min(len(there), len(here)))} differs"
+        )
 
 
     def __enter__(self):
@@ -58,7 +75,10 @@ class Folder(tempfile.TemporaryDirectory):
 def a_monitor_a_handler_and_a_source(program):
     with Folder(program, "monitor", "handler", "source") as folder:
         handler = f"./handler {folder.door} {PAGES} 2"
-        return folder.finish(["./source", str(PAGES), "here", handler], ["./monitor", folder.door, str(PAGES), "there"]) or folder.differ()
+        return (
+            folder.finish(["./source", str(PAGES), "here", handler], ["./monitor", folder.door, str(PAGES), "there"])
+            or folder.differ()
+        )
 
 
 def a_handler_for_the_monitor_and_the_source_of_live(program):
@@ -71,7 +91,10 @@ def a_handler_for_the_monitor_and_the_source_of_live(program):
 
 def a_monitor_and_a_source_for_the_handler_of_live(program):
     with Folder(program, "monitor", "source") as folder:
-        handler = [program, "handler", "--monitor", folder.door, "--memory", SIZE, "--threads", "2", "--feed", f"./source {PAGES} here"]
+        handler = [
+            program, "handler", "--monitor", folder.door, "--memory", SIZE, "--threads", "2", "--feed",
+            f"./source {PAGES} here",
+        ]
         return folder.finish(handler, ["./monitor", folder.door, str(PAGES), "there"]) or folder.differ()
 
 
@@ -80,7 +103,9 @@ def too_few_processors(program):
     guest = ["--memory", SIZE, "--threads", "4"]
     text = "--threads: source 4, destination 2"
     with Folder(program, "handler") as folder:
-        source = pair.Side([program, "source", *guest, *pair.KEPT, "--feed", f"{folder.at}/handler {folder.door} {PAGES} 2"])
+        source = pair.Side(
+            [program, "source", *guest, *pair.KEPT, "--feed", f"{folder.at}/handler {folder.door} {PAGES} 2"]
+        )
         monitor = pair.Side([program, "monitor", "--connect", folder.door, *guest])
         kept = source.end()
         return hurt.expect([("source", kept, pair.LOST, text), ("source", kept, pair.LOST, "its memory is right"),

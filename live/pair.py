@@ -23,9 +23,10 @@ PROGRAM = FOLDER / "out/live"
 POSTMIG = FOLDER.parent / "postmig"
 # What a program ends with: live.h.
 DONE, LOST, REFUSED, WRONG = range(4)
-# A migration that makes progress may take so many times as long as one that makes none.
+# A migration that makes progress may take this many times as long as one that makes none.
 MOST_PATIENT = 3
-# Of a source: a guest that is kept ends after a moment, and is checked. It is not kept only since the machine has much else to do.
+# Of a source: a guest that is kept ends after a moment, and is checked. It is not kept only since the machine has much
+# else to do.
 KEPT = ["--after", "100", "--patience", "600"]
 # Seconds in which a state is to come, and a process to end, on a machine that has much else to do.
 PATIENCE = 120
@@ -61,13 +62,21 @@ def end_started():
 
 
 class Side:
-    """One of the two programs. Threads read its lines: `lines` has the last of its standard output, `figures` the last of each kind, such as
-    `verdict`, and `said` those of its standard error. `text` is all of that, once it has ended. `before` runs in the new process."""
+    """One of the two programs. Threads read its lines: `lines` has the last of its standard output, `figures` the last
+    of each kind, such as `verdict`, and `said` those of its standard error. `text` is all of that, once it has ended.
+    `before` runs in the new process."""
 
     def __init__(self, words, on_progress=None, before=None):
         self.words, self.figures, self.on_progress = words, {}, on_progress
         self.lines, self.said, self.text = collections.deque(maxlen=MOST_LINES), [], ""
-        self.process = subprocess.Popen(words, stdin=subprocess.DEVNULL, stdout=subprocess.PIPE, stderr=subprocess.PIPE, text=True, preexec_fn=before)
+        self.process = subprocess.Popen(
+            words,
+            stdin=subprocess.DEVNULL,
+            stdout=subprocess.PIPE,
+            stderr=subprocess.PIPE,
+            text=True,
+            preexec_fn=before,
+        )
         self.listening = threading.Event()
         self.readers = [threading.Thread(target=read, daemon=True) for read in (self.read, self.hear)]
         for reader in self.readers:
@@ -120,8 +129,8 @@ class Side:
             return json.loads(control.makefile().readline())
 
     def end(self, patience=PATIENCE):
-        """The status, and the text of the standard error; a program that does not end is killed, and has status None: the text says then
-        what it was doing."""
+        """The status, and the text of the standard error; a program that does not end is killed, and has status None:
+        the text says then what it was doing."""
         status, stuck = None, ""
         try:
             status = self.process.wait(patience)
@@ -162,19 +171,39 @@ def without_key(words):
 
 def has_tls(program):
     """Whether it was built with GnuTLS."""
-    done = subprocess.run([program, "dest", "--listen", "127.0.0.1:0", "--psk", "/nowhere"], stdin=subprocess.DEVNULL, capture_output=True, text=True)
+    done = subprocess.run(
+        [program, "dest", "--listen", "127.0.0.1:0", "--psk", "/nowhere"],
+        stdin=subprocess.DEVNULL,
+        capture_output=True,
+        text=True,
+    )
     return "TLS is not built in" not in done.stderr
 
 
 class Migration:
-    """shared, source, dest: words of the command lines. With is_unix the two talk over a Unix socket; with is_handed the guest's memory at the
-    destination is that of a third process, the monitor. With cuts or a delay (seconds) their connections, of TCP, go by a relay that has these. With is_traced both
-    write their steps, to files in the folder `kept` if there is one, and `judged` is what is wrong with them. With
-    has_history the guest's accesses are written at both places, and `history` is the verdict on them. around: words
-    in front of those of a side, "source" or "dest"."""
+    """shared, source, dest: words of the command lines. With is_unix the two talk over a Unix socket; with is_handed
+    the guest's memory at the destination is that of a third process, the monitor. With cuts or a delay (seconds) their
+    connections, of TCP, go by a relay that has these. With is_traced both write their steps, to files in the folder
+    `kept` if there is one, and `judged` is what is wrong with them. With has_history the guest's accesses are written
+    at both places, and `history` is the verdict on them. around: words in front of those of a side, "source" or
+    "dest"."""
 
-    def __init__(self, shared, source, dest, program=PROGRAM, is_unix=False, on_progress=None, is_handed=False, cuts=None, is_traced=False,
-                 kept=None, delay=0.0, around=None, has_history=False):
+    def __init__(
+        self,
+        shared,
+        source,
+        dest,
+        program=PROGRAM,
+        is_unix=False,
+        on_progress=None,
+        is_handed=False,
+        cuts=None,
+        is_traced=False,
+        kept=None,
+        delay=0.0,
+        around=None,
+        has_history=False,
+    ):
         self.folder = tempfile.TemporaryDirectory(prefix="live-")
         self.traces = [f"{kept or self.folder.name}/{side}.trace" for side in ("source", "dest")] if is_traced else None
         kept = kept or self.folder.name
@@ -189,7 +218,10 @@ class Migration:
         role = ["handler", "--monitor", place] if is_handed else ["dest"]
         control = [["--control", f"unix:{self.folder.name}/{side}.control"] for side in ("source", "dest")]
         around = around or {}
-        self.dest = Side([*around.get("dest", ()), str(program), *role, "--listen", address, *shared, *dest, *control[1]], on_progress)
+        self.dest = Side(
+            [*around.get("dest", ()), str(program), *role, "--listen", address, *shared, *dest, *control[1]],
+            on_progress,
+        )
         monitor = [str(program), "monitor", "--connect", place, *without_key(shared), *recorded[1]]
         self.monitor = Side(monitor) if is_handed else None
         self.dest.listening.wait(PATIENCE)
@@ -197,22 +229,34 @@ class Migration:
             address = f"127.0.0.1:{self.dest.number('listening', 'port')}"
         self.relay = between.Relay(between.place(address), cuts=cuts or (), delay=delay) if cuts or delay else None
         address = self.relay.address if self.relay else address
-        self.source = Side([*around.get("source", ()), str(program), "source", "--connect", address, *shared, *KEPT, *source, *control[0]], on_progress)
+        self.source = Side(
+            [
+                *around.get("source", ()), str(program), "source", "--connect", address, *shared, *KEPT, *source,
+                *control[0],
+            ],
+            on_progress,
+        )
 
     def wait(self, patience):
-        """Until one side has ended, or nothing that they say of their progress has changed for this time; MOST_PATIENT times as long at most."""
+        """Until one side has ended, or nothing that they say of their progress has changed for this time; MOST_PATIENT
+        times as long at most."""
         begun, last, said = time.time(), time.time(), None
         while self.source.is_running() and self.dest.is_running():
             now, saying = time.time(), (self.source.figures.get("progress"), self.dest.figures.get("progress"))
             if saying != said:
                 last, said = now, saying
-            if now - last > patience or now - begun > MOST_PATIENT * patience or any(side.is_held() for side in self.sides().values()):
+            if (
+                now - last > patience
+                or now - begun > MOST_PATIENT * patience
+                or any(side.is_held() for side in self.sides().values())
+            ):
                 return
             time.sleep(0.002)
 
     def finish(self, patience=PATIENCE, keep=None, look=None):
-        """What is wrong, or None; `look` may find more. The destination is asked to end once the source is gone; one that gives up ends both.
-        What is left of a migration that is wrong goes to the folder `keep`, if there is one."""
+        """What is wrong, or None; `look` may find more. The destination is asked to end once the source is gone; one
+        that stops trying ends both. What is left of a migration that is wrong goes to the folder `keep`, if there is
+        one."""
         wrong = None
         try:
             wrong = self.end_all(patience) or (look and look(self))
@@ -233,7 +277,10 @@ class Migration:
         self.wait(patience)
         self.let_go()
         if self.source.is_running() and self.dest.is_running():
-            hang = f"no end after {time.time() - begun:.0f} s: source {self.source.state()}; destination {self.dest.state()}"
+            hang = (
+                f"no end after {time.time() - begun:.0f} s: source {self.source.state()}; destination "
+                f"{self.dest.state()}"
+            )
         if self.source.is_running() and not hang:
             time.sleep(0.05)
         is_killed = self.source.is_running()
@@ -276,7 +323,11 @@ class Migration:
                 self.dest.order("abandon")
 
     def sides(self):
-        return {name: side for name, side in (("source", self.source), ("dest", self.dest), ("monitor", self.monitor)) if side}
+        return {
+            name: side
+            for name, side in (("source", self.source), ("dest", self.dest), ("monitor", self.monitor))
+            if side
+        }
 
     def keep(self, folder, wrong):
         """Files with what is wrong, what each program was called with and has said, the traces, and their merge."""
@@ -305,7 +356,9 @@ class Migration:
         except (merging.NoOrder, merging.Unreadable, OSError) as fault:
             differs = str(fault)
         if differs:
-            self.judged = f"no run of the machine: {differs.replace(f'{self.folder.name}/', '').replace(f'{FOLDER.parent}/', '')}"
+            self.judged = (
+                f"no run of the machine: {differs.replace(f'{self.folder.name}/', '').replace(f'{FOLDER.parent}/', '')}"
+            )
 
     def judge_history(self):
         """Both files in one history, which `postmig history` judges if there is a proved program."""
@@ -327,8 +380,13 @@ class Migration:
     def wrong(self):
         if not self.source_status and self.dest_status == DONE:
             return None if self.source_status == DONE else f"source: status {self.source_status}"
-        return "; ".join(f"{name}: status {status} {text}" for name, status, text in (
-            ("source", self.source_status, self.source_text), ("destination", self.dest_status, self.dest_text)) if status != DONE)
+        return "; ".join(
+            f"{name}: status {status} {text}"
+            for name, status, text in (
+                ("source", self.source_status, self.source_text), ("destination", self.dest_status, self.dest_text)
+            )
+            if status != DONE
+        )
 
 
 def missing():

@@ -38,7 +38,7 @@ def an_hour_later(line):
 
 
 def differs(name, lines, status, kind):
-    """What is wrong with the verdict on these lines: it has to have this status, and to name this kind."""
+    """What is wrong with the verdict on these lines: it must have this status, and name this kind."""
     verdict = histories.Verdict(pair.POSTMIG, lines)
     if verdict.status == status and (kind is None or kind in verdict.kinds):
         return None

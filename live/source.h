@@ -64,7 +64,7 @@ struct source {
     } figures;
 };
 
-/* Takes the state anew from the node. */
+/* Takes the state again from the node. */
 void source_look(struct source *source);
 
 /* Says how far this slice is, for what is said of all. */

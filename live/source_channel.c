@@ -158,7 +158,7 @@ void channel_connect(struct source *source)
 
 /* FRAMES THAT COME BACK */
 
-/* A destination that was started anew knows nothing of a guest that may have run on the old one. */
+/* A destination that was started again knows nothing of a guest that may have run on the old one. */
 static void take_hello(struct source *source)
 {
     char text[MOST_OF_REASON + 32], reason[MOST_OF_REASON + 1];
@@ -281,7 +281,7 @@ static bool exchange(struct source *source)
 
     (void)node_send_frames(&source->node, &source->main); /* how many is of no interest */
     is_sent = stream_send(&source->main);
-    is_whole = hear(source) && is_sent;                   /* (what waits to be sent may be a beat, and what has come the Done) */
+    is_whole = hear(source) && is_sent;                   /* (what waits to be sent may be a beat, and what has arrived the Done) */
     (void)node_send_frames(&source->node, &source->main); /* after a Recv: Discard and Package */
     return is_whole && is_urgent_whole(source);
 }

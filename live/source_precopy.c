@@ -62,7 +62,7 @@ static void send_protected(struct source *source, uint32_t first, uint32_t count
         refuse("the node has sent another page than 0x%x, which it has announced", first);
 }
 
-/* Protects pages from `first` on, and copies their bytes. NULL where that has to be tried again. */
+/* Protects pages from `first` on, and copies their bytes. NULL where that must be tried again. */
 static const char *take_run(struct source *source, uint32_t first, uint32_t count)
 {
     char *at = source_page(source, first);

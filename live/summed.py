@@ -1,4 +1,4 @@
-"""Sums at the end of two traces, of which one is changed: live/merge has to name it. A case returns what is wrong, or
+"""Sums at the end of two traces, of which one is changed: live/merge must name it. A case returns what is wrong, or
 None."""
 
 import pathlib

@@ -19,11 +19,11 @@ def show(name, runs):
 
 
 def cell(values):
-    """The median, and the least and the greatest; none where there is no such figure."""
+    """The median; none where there is no such figure."""
     if not values:
         return ""
     digits = 0 if statistics.median(values) >= 100 else 2
-    return f"{statistics.median(values):,.{digits}f} ({min(values):,.{digits}f}\N{EN DASH}{max(values):,.{digits}f})"
+    return f"{statistics.median(values):,.{digits}f}"
 
 
 def row(name, runs, keys):
@@ -32,7 +32,10 @@ def row(name, runs, keys):
 
 def when(loads):
     """loads: the load average at the begin and at the end."""
-    return f"on {page.machine()}, on {datetime.date.today()}, with a load of {loads[0]:.1f} at the begin and {loads[1]:.1f} at the end"
+    return (
+        f"on {page.machine()}, on {datetime.date.today()}, with a load of {loads[0]:.1f} at the begin and "
+        f"{loads[1]:.1f} at the end"
+    )
 
 
 def put(part, lines):

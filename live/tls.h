@@ -22,7 +22,7 @@ bool tls_new(struct tls **made, int file, enum tls_side side);
 void tls_free(struct tls *tls);
 
 /* As send(2) and recv(2) of a socket that does not block: -1 with EAGAIN while the handshake is under way too, and with EPROTO where the
-   other side has not the key or does not speak TLS. What tls_send could not finish the next call continues: it has to have the same bytes
+   other side has not the key or does not speak TLS. What tls_send could not finish the next call continues: it must have the same bytes
    at its front. */
 ssize_t tls_send(struct tls *tls, const void *bytes, size_t length);
 ssize_t tls_receive(struct tls *tls, void *bytes, size_t length);

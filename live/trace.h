@@ -8,13 +8,13 @@
 /* The file; path NULL: nothing is traced, and the calls below do nothing. */
 void trace_open(const char *path);
 
-/* From now on the steps of this node are traced, which is that of this slice, of so many. */
+/* From now on the steps of this node are traced. It is that of slice `slice` of `slices`. */
 void trace_begin(struct node *node, uint32_t processors, uint32_t slice, uint32_t slices);
 
 /* The node is a new one: what was traced of it is dropped. */
 void trace_begin_again(struct node *node, uint32_t processors);
 
-/* The node, a destination, has just taken a Resume of this epoch. No line says that, and a merge has to know which one it was. */
+/* The node, a destination, has just taken a Resume of this epoch. No line says that, and a merge must know which one it was. */
 void trace_resumed(uint32_t epoch);
 
 /* When something was that a merge compares with other slices, in ns: `what` is a word. */

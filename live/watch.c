@@ -150,7 +150,7 @@ static bool is_within(const struct watch *watch, const struct uffd_msg *fault, u
     return start <= address && address < end;
 }
 
-/* Pages of this range were woken: threads that found no place fault again, if they have to. */
+/* Pages of this range were woken: threads that found no place fault again, if they must. */
 static void forget_late(struct watch *watch, uint64_t start, uint64_t end)
 {
     uint32_t left = 0;
@@ -209,7 +209,7 @@ static uint32_t free_places(const struct watch *watch)
     return watch->guest->plan.threads > watch->places && count ? count - 1 : count;
 }
 
-/* The place that this thread has, or had last; else the first one that is free. NULL: it has to wait for one. */
+/* The place that this thread has, or had last; else the first one that is free. NULL: it must wait for one. */
 static struct place *place_of_thread(struct watch *watch, uint32_t thread)
 {
     struct place *empty = NULL;

@@ -289,7 +289,7 @@ static size_t shorten(struct iovec *parts, size_t count, uint64_t length)
     return left;
 }
 
-/* Fills the parts with what has come by records. As recvmsg(2): what is said after the last byte is said again by the next call. */
+/* Fills the parts with what has arrived by records. As recvmsg(2): what is said after the last byte is said again by the next call. */
 static ssize_t decrypt(struct tls *tls, const struct iovec *parts, size_t count)
 {
     ssize_t all = 0, got = 0;

@@ -48,7 +48,7 @@ struct bytes {
 struct stream {
     int file;
     struct tls *tls; /* NULL: it is plain */
-    bool is_ready;   /* something may have come since the last receive: the caller sets it too, after poll(2) */
+    bool is_ready;   /* something may have arrived since the last receive: the caller sets it too, after poll(2) */
     struct bytes in, out;
     struct cut cut;
     int error;                                                /* of what has broken the connection; 0: its end */

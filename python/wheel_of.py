@@ -1,4 +1,5 @@
-"""Makes the wheel of this package for pip, by the standard library alone: it needs no compiler, no network and no other package."""
+"""Makes the wheel of this package for pip, by the standard library alone: it needs no compiler, no network and no other
+package."""
 
 import base64
 import hashlib
@@ -26,7 +27,10 @@ def build_wheel(wheel_directory, config_settings=None, metadata_directory=None):
     about["Requires-Python"] = project("requires-python")
     files[f"{info}/METADATA"] = "".join(f"{key}: {value}\n" for key, value in about.items()).encode()
     files[f"{info}/WHEEL"] = b"Wheel-Version: 1.0\nGenerator: postmig\nRoot-Is-Purelib: true\nTag: py3-none-any\n"
-    sums = {path: base64.urlsafe_b64encode(hashlib.sha256(text).digest()).rstrip(b"=").decode() for path, text in files.items()}
+    sums = {
+        path: base64.urlsafe_b64encode(hashlib.sha256(text).digest()).rstrip(b"=").decode()
+        for path, text in files.items()
+    }
     record = "".join(f"{path},sha256={sums[path]},{len(text)}\n" for path, text in files.items())
     files[f"{info}/RECORD"] = f"{record}{info}/RECORD,,\n".encode()
     wheel = f"{name}-{version}-py3-none-any.whl"

@@ -77,7 +77,7 @@ __attribute__((constructor)) static void begin(void)
     const char *path = getenv("UFFDLOG"), *page = getenv("UFFDLOG_SHARED");
     int error = errno;
 
-    (void)next(); /* so that no signal handler has to look them up */
+    (void)next(); /* so that no signal handler needs to look them up */
     if (!path || !log_open(path))
         return;
     if (page)

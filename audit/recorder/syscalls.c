@@ -1,4 +1,4 @@
-/* syscall(2), for the calls that are recorded. The others go on as they are. */
+/* syscall(2), for the calls that are recorded. The others continue as they are. */
 #include <errno.h>
 #include <fcntl.h>
 #include <poll.h>

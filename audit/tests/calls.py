@@ -1,4 +1,4 @@
-"""The calls of a stored log, for the faults that `planted` makes of them."""
+"""The calls of a stored log, into which `planted` puts faults."""
 
 from dataclasses import dataclass, field
 from typing import Optional
@@ -9,7 +9,8 @@ import uffdlog
 
 @dataclass(eq=False)
 class Call:
-    """A call with its answer, which is None where it never returned. Its lines are numbered by tens, so that others fit between them."""
+    """A call with its answer, which is None where it never returned. Its lines are numbered by tens, so that others fit
+    between them."""
 
     word: str
     arguments: dict

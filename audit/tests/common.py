@@ -15,7 +15,9 @@ QUICK = "AUDIT_QUICK" in os.environ
 
 def run(program, *words, **more):
     """Runs a program of this folder."""
-    return subprocess.run([sys.executable, AUDIT / program, *map(str, words)], capture_output=True, text=True, timeout=60, **more)
+    return subprocess.run(
+        [sys.executable, AUDIT / program, *map(str, words)], capture_output=True, text=True, timeout=60, **more
+    )
 
 
 def audit(log, *more):

@@ -1,4 +1,5 @@
-"""Faults that are planted in a clean log: each takes the calls of a log and a source of random numbers, and changes the calls."""
+"""Faults that are planted in a clean log: each takes the calls of a log and a source of random numbers, and changes the
+calls."""
 
 import copy
 
@@ -45,7 +46,9 @@ def answer(call, errno, number):
 
 def of_a_fault(calls, rng):
     pages = faulted(calls)
-    return rng.choice([call for call in installs(calls) if start(call) in pages and pages[start(call)].end < call.begin])
+    return rng.choice(
+        [call for call in installs(calls) if start(call) in pages and pages[start(call)].end < call.begin]
+    )
 
 
 def of_no_fault(calls, rng):
@@ -120,7 +123,9 @@ def never_installed(calls, rng):
 
 def two_stale_faults(calls, rng):
     read = rng.choice(fault_reads(calls))
-    last = max((call for call in installs(calls) if start(call) == read.messages[0][1]["ADDRESS"]), key=lambda call: call.end)
+    last = max(
+        (call for call in installs(calls) if start(call) == read.messages[0][1]["ADDRESS"]), key=lambda call: call.end
+    )
     calls += [after(last, read, 1), after(last, read, 3)]
 
 
@@ -145,7 +150,13 @@ def message_that_nobody_read(calls, rng):
 
 
 def fault_of_an_unprotected_page(calls, rng):
-    call = rng.choice([it for it in calls if it.word == "writeprotect" and it.arguments["MODE"] == 0 and it.arguments["LENGTH"] == 4096])
+    call = rng.choice(
+        [
+            it
+            for it in calls
+            if it.word == "writeprotect" and it.arguments["MODE"] == 0 and it.arguments["LENGTH"] == 4096
+        ]
+    )
     read, values = fault_reads(calls)[0], {"ADDRESS": start(call), "FLAGS": 3, "THREAD": 0}
     calls += [after(call, read, places, messages=[("fault", values)]) for places in (1, 3)]
 
@@ -169,11 +180,15 @@ def map_call_for_ever(calls, rng):
     read = rng.choice(event_reads(calls, "remove"))
     start = read.messages[0][1]["START"]
     calls.remove(read)
-    call = next(it for it in calls if it.word == "madvise" and it.arguments["ADDRESS"] == start and it.begin < read.end < it.end + 1000)
+    call = next(
+        it
+        for it in calls
+        if it.word == "madvise" and it.arguments["ADDRESS"] == start and it.begin < read.end < it.end + 1000
+    )
     call.end, call.answer = None, None
 
 
-# Each with the log that it is planted in, and the rule that the audit has to name.
+# Each with the log that it is planted in, and the rule that the audit must name.
 PLANTED = (
     ("qemu-strace", touched_before, "present-before"),
     ("qemu-push", install_left_out, "fault-not-resolved"),

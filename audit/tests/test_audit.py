@@ -64,7 +64,9 @@ class Stored(unittest.TestCase):
         self.assertEqual((done.returncode, {it["rule"] for it in cases}), (status, set(rules)))
         for it in cases:
             self.assertEqual(it["severity"], "note" if it["rule"] == "page-owed" else "fault")
-            self.assertTrue(it["line"] > 0 and it["object"] > 0 and it["process"] > 0 and int(it["address"], 16) % 4096 == 0, it)
+            self.assertTrue(
+                it["line"] > 0 and it["object"] > 0 and it["process"] > 0 and int(it["address"], 16) % 4096 == 0, it
+            )
         self.assertTrue(summary["certified"], summary)
         owed = sum(it["pages"] for it in cases if it["rule"] == "page-owed")
         self.assertTrue(0 < owed <= summary["missing"], summary)

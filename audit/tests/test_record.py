@@ -62,8 +62,10 @@ class Preloaded(Kernel):
 
     def check_program(self, found):
         calls = collections.Counter(entry.call.word for entry in found if entry.kind == "end")
-        for word in ("open", "api", "register", "scan", "copy", "zeropage", "wake", "writeprotect", "read", "poll", "nonblock", "dup", "close",
-                     "unregister", "mmap", "munmap", "mremap", "madvise", "fork"):
+        for word in (
+            "open", "api", "register", "scan", "copy", "zeropage", "wake", "writeprotect", "read", "poll", "nonblock",
+            "dup", "close", "unregister", "mmap", "munmap", "mremap", "madvise", "fork",
+        ):
             self.assertTrue(calls[word], word)
         messages = collections.Counter(entry.word for entry in found if entry.kind == "message")
         for word in ("fault", "remap", "remove", "unmap"):
@@ -73,17 +75,26 @@ class Preloaded(Kernel):
         # The page that was stored before REGISTER is there, and it alone.
         runs = [entry.values for entry in found if entry.kind == "have"]
         self.assertEqual([(it["LENGTH"], it["BITS"]) for it in runs], [(4096, 1)])
-        # One object is known in the parent, in a child that inherited it and in one that got it by a socket; two children are forked.
-        # (the kernel may have refused an open before: the program then asks for user mode alone)
-        first = next(entry.values["O"][0] for entry in found if entry.kind == "end" and entry.call.word == "open" and entry.word == "ok")
-        holders = {entry.pid for entry in found if entry.call and entry.call.word == "wake" and entry.call.object == first}
+        # One object is known in the parent, in a child that inherited it and in one that got it by a socket; two
+        # children are forked. (the kernel may have refused an open before: the program then asks for user mode alone)
+        first = next(
+            entry.values["O"][0]
+            for entry in found
+            if entry.kind == "end" and entry.call.word == "open" and entry.word == "ok"
+        )
+        holders = {
+            entry.pid for entry in found if entry.call and entry.call.word == "wake" and entry.call.object == first
+        }
         self.assertEqual(len(holders), 3)
         self.assertEqual(sum(entry.kind == "forked" for entry in found), 2)
         self.assertEqual(sum(entry.kind == "exit" for entry in found), 3)
-        # A child of clone(2) with the parent's memory does not begin in the log: it finds the object that this memory is of.
+        # A child of clone(2) with the parent's memory does not begin in the log: it finds the object that this memory
+        # is of.
         begun = {entry.pid for entry in found if entry.kind in ("started", "forked")}
         sharing = {entry.pid for entry in found if entry.kind == "begin" and entry.word == "madvise"} - begun
-        self.assertEqual([entry.values["O"][0] for entry in found if entry.kind == "found" and entry.pid in sharing], [first])
+        self.assertEqual(
+            [entry.values["O"][0] for entry in found if entry.kind == "found" and entry.pid in sharing], [first]
+        )
         errnos = {entry.word for entry in found if entry.kind == "end" and entry.call.word == "copy"}
         self.assertLessEqual({"ok", "EFAULT", "EINVAL"}, errnos)
 
@@ -104,7 +115,9 @@ class Preloaded(Kernel):
         self.assertEqual(wrong, [])
 
     def test_a_killed_program_leaves_a_log(self):
-        process = subprocess.Popen([common.AUDIT / "record", "-o", self.log, common.compiled("cost"), "60"], stdout=subprocess.PIPE)
+        process = subprocess.Popen(
+            [common.AUDIT / "record", "-o", self.log, common.compiled("cost"), "60"], stdout=subprocess.PIPE
+        )
         self.addCleanup(process.stdout.close)
         started = None
         for _ in range(200):
@@ -197,7 +210,9 @@ class Traced(Kernel):
         self.addCleanup(process.wait)
         self.addCleanup(process.kill)
         time.sleep(0.3)
-        recorder = subprocess.Popen([common.AUDIT / "record", "-o", self.log, "--attach", str(process.pid)], stderr=subprocess.PIPE, text=True)
+        recorder = subprocess.Popen(
+            [common.AUDIT / "record", "-o", self.log, "--attach", str(process.pid)], stderr=subprocess.PIPE, text=True
+        )
         for _ in range(200):
             if os.path.exists(self.log) and os.path.getsize(self.log) > 10_000:
                 break
@@ -212,8 +227,10 @@ class Traced(Kernel):
     def test_threads_before(self):
         """A thread that is there when strace comes is one of the process; one that is made then is made by its line."""
         with open(self.log, "wb") as file:
-            file.write(b"7 100.000001 close(3) = 0 <0.000001>\n8 100.000002 clone3({flags=CLONE_THREAD}, 88 <unfinished ...>\n"
-                       b"8 100.000003 <... clone3 resumed>) = 9 <0.000001>\n9 100.000004 close(4) = 0 <0.000001>\n")
+            file.write(
+                b"7 100.000001 close(3) = 0 <0.000001>\n8 100.000002 clone3({flags=CLONE_THREAD}, 88 <unfinished ...>\n"
+                b"8 100.000003 <... clone3 resumed>) = 9 <0.000001>\n9 100.000004 close(4) = 0 <0.000001>\n"
+            )
         line, = recording.threads_before(self.log, 7)
         self.assertRegex(line, b"^7 100.000001 clone.*CLONE_VM.*CLONE_FILES.*CLONE_THREAD.* = 8 <")
 

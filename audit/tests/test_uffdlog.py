@@ -29,7 +29,8 @@ def read(lines):
 
 
 def log(*lines, clock="thread", head=True):
-    """A log of process 7, whose lines have their times and `7 7` put before them unless they begin with a figure or `lost`."""
+    """A log of process 7, whose lines have their times and `7 7` put before them unless they begin with a figure or
+    `lost`."""
     out = [f"uffdlog 1\nrecorder test 1\nkernel - - -\npage 4096\nclock {clock}\ncommand -\n"] if head else []
     for time, line in enumerate(lines):
         out.append(f"{line}\n" if line[:1].isdigit() or line.startswith("lost") else f"{time} 7 7 {line}\n")
@@ -54,39 +55,65 @@ class Right(unittest.TestCase):
 
     def test_every_call(self):
         self.is_right(
-            *OPENED, "begin 2 api 3:5 0xaa 0x0", "end 2 ok 0x1ffff 0x8000000000000003", "begin 3 register 3:5 0x4000 0x2000 3", "end 3 ok 0x15c",
-            "begin 4 copy 3:5 0x4000 0x9001 0x1000 0x0", "end 4 ok 4096", "begin 5 copy 3:5 0x4000 0x9001 0x1000 0x0", "end 5 EEXIST -17",
+            *OPENED, "begin 2 api 3:5 0xaa 0x0", "end 2 ok 0x1ffff 0x8000000000000003",
+            "begin 3 register 3:5 0x4000 0x2000 3", "end 3 ok 0x15c", "begin 4 copy 3:5 0x4000 0x9001 0x1000 0x0",
+            "end 4 ok 4096", "begin 5 copy 3:5 0x4000 0x9001 0x1000 0x0", "end 5 EEXIST -17",
             "begin 6 zeropage 3:5 0x5000 0x1000 0", "end 6 EAGAIN", "begin 7 wake 3:5 0x4000 0x1000", "end 7 ok",
-            "begin 8 writeprotect 3:5 0x4000 0x1000 1", "end 8 ok", "begin 9 continue 3:5 0x4000 0x1000 0", "end 9 EFAULT -14",
-            "begin 10 poison 3:5 0x4000 0x1000 0", "end 10 ok 4096", "begin 11 move 3:5 0x4000 0x8000 0x1000 0", "end 11 ok 4096",
-            "begin 12 poll 3:5", "end 12 ok 0x1", "begin 13 nonblock 3:5 1", "end 13 ok", "begin 14 dup 3:5 -", "end 14 ok 6",
-            "begin 15 dup 3:6 9", "end 15 ok 9", "begin 16 close 3:6", "end 16 ok", "begin 17 unregister 3:9 0x4000 0x2000", "end 17 ok",
-            "begin 18 mmap 0x0 5 3 0x22", "end 18 ok 0x8000", "begin 19 munmap 0x8000 5", "end 19 ok", "begin 20 mremap 0x8000 1 0x2000 1 0",
-            "end 20 ok 0xa000", "begin 21 madvise 0xa000 0x1000 4", "end 21 EINVAL", "begin 22 fork", "end 22 ok 8", "8 8 8 forked 7", "exit")
+            "begin 8 writeprotect 3:5 0x4000 0x1000 1", "end 8 ok", "begin 9 continue 3:5 0x4000 0x1000 0",
+            "end 9 EFAULT -14", "begin 10 poison 3:5 0x4000 0x1000 0", "end 10 ok 4096",
+            "begin 11 move 3:5 0x4000 0x8000 0x1000 0", "end 11 ok 4096", "begin 12 poll 3:5", "end 12 ok 0x1",
+            "begin 13 nonblock 3:5 1", "end 13 ok", "begin 14 dup 3:5 -", "end 14 ok 6", "begin 15 dup 3:6 9",
+            "end 15 ok 9", "begin 16 close 3:6", "end 16 ok", "begin 17 unregister 3:9 0x4000 0x2000", "end 17 ok",
+            "begin 18 mmap 0x0 5 3 0x22", "end 18 ok 0x8000", "begin 19 munmap 0x8000 5", "end 19 ok",
+            "begin 20 mremap 0x8000 1 0x2000 1 0", "end 20 ok 0xa000", "begin 21 madvise 0xa000 0x1000 4",
+            "end 21 EINVAL", "begin 22 fork", "end 22 ok 8", "8 8 8 forked 7", "exit",
+        )
 
     def test_a_close_and_an_open_that_overlap(self):
-        self.is_right(*OPENED, "begin 2 close 3:5", "2 7 8 begin 3 open syscall 0", "3 7 8 end 3 ok 4:5", "4 7 9 begin 4 wake 3:5 0 0x1000",
-                      "4 7 9 begin 5 wake 4:5 0 0x1000", "end 2 ok", "begin 6 wake 4:5 0 0x1000", "end 6 EINVAL")
+        self.is_right(
+            *OPENED, "begin 2 close 3:5", "2 7 8 begin 3 open syscall 0", "3 7 8 end 3 ok 4:5",
+            "4 7 9 begin 4 wake 3:5 0 0x1000", "4 7 9 begin 5 wake 4:5 0 0x1000", "end 2 ok",
+            "begin 6 wake 4:5 0 0x1000", "end 6 EINVAL",
+        )
 
     def test_calls_in_a_signal_handler(self):
         self.is_right(*OPENED, "begin 2 wake 3:5 0 0x1000", "begin 3 wake 3:5 0 0x1000", "end 3 ok", "end 2 ok")
 
     def test_messages_of_all_kinds(self):
-        self.is_right(*OPENED, "begin 2 read 3:5 160", "message 2 fault 0x7001 3 0", "message 2 remap 0x1000 0x3000 0x1000",
-                      "message 2 unmap 0 0x1000", "message 2 remove 0x1000 0x2000", "message 2 fork 4:6", "end 2 ok 5",
-                      "begin 3 close 4:6", "end 3 ok")
+        self.is_right(
+            *OPENED, "begin 2 read 3:5 160", "message 2 fault 0x7001 3 0", "message 2 remap 0x1000 0x3000 0x1000",
+            "message 2 unmap 0 0x1000", "message 2 remove 0x1000 0x2000", "message 2 fork 4:6", "end 2 ok 5",
+            "begin 3 close 4:6", "end 3 ok",
+        )
 
     def test_exec_and_inheritance(self):
-        self.is_right(*OPENED, "begin 2 read 3:5 32", "started 1 ./other % a%20b ...", "found 3:5", "begin 1 close 3:5", "end 1 ok")
+        self.is_right(
+            *OPENED,
+            "begin 2 read 3:5 32",
+            "started 1 ./other % a%20b ...",
+            "found 3:5",
+            "begin 1 close 3:5",
+            "end 1 ok",
+        )
 
     def test_lost_lines_excuse(self):
-        wrong, _, said = read(log("lost 3", "end 4 ok", "begin 5 wake 3:5 0 0x1000", "message 9 fault 0x7000 1 9", "begin 10 read 3:5 64",
-                                  "end 10 ok 1"))
+        wrong, _, said = read(
+            log(
+                "lost 3",
+                "end 4 ok",
+                "begin 5 wake 3:5 0 0x1000",
+                "message 9 fault 0x7000 1 9",
+                "begin 10 read 3:5 64",
+                "end 10 ok 1",
+            )
+        )
         self.assertEqual(wrong, [])
         self.assertIn("          4 lines lack what the lost lines may have had", said)
 
     def test_interrupted_and_never_returned(self):
-        wrong, _, said = read(log(*OPENED, "begin 2 read 3:5 -", "2 7 8 begin 3 read 3:5 32", "3 7 8 end 3 interrupted"))
+        wrong, _, said = read(
+            log(*OPENED, "begin 2 read 3:5 -", "2 7 8 begin 3 read 3:5 32", "3 7 8 end 3 interrupted")
+        )
         self.assertEqual(wrong, [])
         self.assertIn("call      read: interrupted 1, never returned 1 (line 9)", said)
 
@@ -138,7 +165,11 @@ class Wrong(unittest.TestCase):
         ("which is no scan", OPENED, ("begin 2 close 3:5", "have 2 0x7000 0x1000 1")),
         ("2 messages, and there are 1", OPENED + READ, ("end 2 ok 2",)),
         ("0 messages, and there are 1", OPENED + READ, ("end 2 ok 0",)),
-        ("do not fit 32 bytes", OPENED, ("begin 2 read 3:5 32", "message 2 fault 0 1 9", "message 2 fault 0 1 9", "end 2 ok 2")),
+        (
+            "do not fit 32 bytes",
+            OPENED,
+            ("begin 2 read 3:5 32", "message 2 fault 0 1 9", "message 2 fault 0 1 9", "end 2 ok 2"),
+        ),
         ("not the address of a page", OPENED, ("begin 2 wake 3:5 0x1001 0x1000", "end 2 ok")),
         ("not a number of pages", OPENED, ("begin 2 wake 3:5 0x1000 0", "end 2 ok")),
         ("not a number of pages", OPENED, ("begin 2 wake 3:5 0x1000 100", "end 2 ok")),
@@ -174,7 +205,9 @@ class Wrong(unittest.TestCase):
         self.assertEqual(read(log(*lines, clock="log"))[0], [(8, "time runs back, from 9 to 8")])
 
     def test_one_wrong_line_is_named_once(self):
-        lines = ("begin 2 wake 3:5 0x1000", "end 2 ok", "begin 3 close 4:6", "end 3 ok", "begin 4 close 3:5", "end 4 ok")
+        lines = (
+            "begin 2 wake 3:5 0x1000", "end 2 ok", "begin 3 close 4:6", "end 3 ok", "begin 4 close 3:5", "end 4 ok"
+        )
         wrong = read(log(*OPENED, *lines))[0]
         self.assertEqual([line for line, _ in wrong], [9, 11])
 
@@ -183,7 +216,13 @@ class Wrong(unittest.TestCase):
         for missing in range(1, 6):
             wrong = read(lines[:missing] + lines[missing + 1:])[0]
             self.assertEqual([line for line, _ in wrong], [missing + 1], wrong)
-        for line, other in ((1, b"recorder test x\n"), (2, b"kernel Linux\n"), (3, b"page 1000\n"), (4, b"clock none\n"), (5, b"command\n")):
+        for line, other in (
+            (1, b"recorder test x\n"),
+            (2, b"kernel Linux\n"),
+            (3, b"page 1000\n"),
+            (4, b"clock none\n"),
+            (5, b"command\n"),
+        ):
             wrong = read(lines[:line] + [other] + lines[line + 1:])[0]
             self.assertEqual([it for it, _ in wrong], [line + 1], wrong)
         self.assertEqual(read(lines[:3])[0], [(3, "the log ends in its head: 'page' is missing")])
@@ -194,9 +233,14 @@ class Wrong(unittest.TestCase):
                 read(lines)
 
     def test_strace_is_named(self):
-        for line, is_of_strace in ((b'71 1764282000.000001 execve("./a", ["./a"], 0x7ffc /* 20 vars */) = 0\n', True),
-                                   (b"[pid  71] userfaultfd(O_CLOEXEC <unfinished ...>\n", True), (b"brk(NULL)    = 0x55\n", True),
-                                   (b"int main(void)\n", False), (b"main(void)\n", False), (b"(a = b)\n", False)):
+        for line, is_of_strace in (
+            (b'71 1764282000.000001 execve("./a", ["./a"], 0x7ffc /* 20 vars */) = 0\n', True),
+            (b"[pid  71] userfaultfd(O_CLOEXEC <unfinished ...>\n", True),
+            (b"brk(NULL)    = 0x55\n", True),
+            (b"int main(void)\n", False),
+            (b"main(void)\n", False),
+            (b"(a = b)\n", False),
+        ):
             with self.assertRaises(uffdlog.Unreadable) as refused:
                 read([line])
             self.assertEqual("strace" in str(refused.exception), is_of_strace, line)
@@ -242,12 +286,16 @@ def changed(lines, seed):
 
 def full_example():
     """The example and more, so that each kind of line is there to be changed."""
-    more = ("begin 8 open device 0", "end 8 ok 9:5", "begin 9 read 9:5 64", "message 9 remap 0x1000 0x3000 0x1000", "message 9 fork 10:7",
-            "end 9 ok 2",
-            "begin 10 dup 9:5 -", "end 10 ok 6", "begin 11 mremap 0x8000 1 0x2000 1 0", "end 11 ok 0xa000", "begin 12 fork", "end 12 ok 88",
-            "dropped 9:6", "begin 13 zeropage 9:5 0x5000 0x1000 0", "end 13 EAGAIN -11", "begin 14 poll 9:5", "end 14 interrupted")
+    more = (
+        "begin 8 open device 0", "end 8 ok 9:5", "begin 9 read 9:5 64", "message 9 remap 0x1000 0x3000 0x1000",
+        "message 9 fork 10:7", "end 9 ok 2", "begin 10 dup 9:5 -", "end 10 ok 6", "begin 11 mremap 0x8000 1 0x2000 1 0",
+        "end 11 ok 0xa000", "begin 12 fork", "end 12 ok 88", "dropped 9:6", "begin 13 zeropage 9:5 0x5000 0x1000 0",
+        "end 13 EAGAIN -11", "begin 14 poll 9:5", "end 14 interrupted",
+    )
     lines = [f"{5000 + 100 * time} 70 70 {line}\n".encode() for time, line in enumerate(more)]
-    return common.example()[:-1] + lines + [b"9000 88 88 forked 70\n", b"9100 88 88 found 9:5\n", b"lost 2\n", b"9200 88 88 exit\n"]
+    return common.example()[:-1] + lines + [
+        b"9000 88 88 forked 70\n", b"9100 88 88 found 9:5\n", b"lost 2\n", b"9200 88 88 exit\n"
+    ]
 
 
 class Changed(unittest.TestCase):
@@ -307,12 +355,19 @@ class Program(unittest.TestCase):
             self.assertTrue(done.stdout.endswith(f"{good}: well formed\n"))
             with open(good, "rb") as file:
                 data = file.read()
-            for name, content in (("cut.log.gz", data[:len(data) // 2]), ("not.gz", b"uffdlog 1\n"), ("empty.log", b""), ("other.log", b"hello\n")):
+            for name, content in (
+                ("cut.log.gz", data[:len(data) // 2]),
+                ("not.gz", b"uffdlog 1\n"),
+                ("empty.log", b""),
+                ("other.log", b"hello\n"),
+            ):
                 with open(f"{folder}/{name}", "wb") as file:
                     file.write(content)
                 done = common.run("check", f"{folder}/{name}")
                 self.assertEqual(done.returncode, 2, name)
-                self.assertTrue(done.stderr.startswith(f"{folder}/{name}:") and done.stderr.count("\n") == 1, done.stderr)
+                self.assertTrue(
+                    done.stderr.startswith(f"{folder}/{name}:") and done.stderr.count("\n") == 1, done.stderr
+                )
             for name in ("missing.log", ""):
                 done = common.run("check", f"{folder}/{name}")
                 self.assertEqual((done.returncode, done.stderr.count("\n")), (2, 1), done.stderr)

@@ -1,4 +1,4 @@
-"""Logs as text, whose calls were changed: what `planted` makes of a stored log."""
+"""Logs as text, whose calls were changed, as `planted` changes a stored log."""
 
 from uffdlog import CALLS, HEAD, MESSAGES, lines_of, open_log
 
@@ -36,7 +36,8 @@ def lines_of_call(call, number):
 
 
 def text_of(name, calls):
-    """The text of a log with the lines of a stored one that are no calls, and with these calls, whose lines are numbered by tens as `planted` does."""
+    """The text of a log with the lines of a stored one that are not calls, and with these calls, whose lines are
+    numbered by tens as `planted` does."""
     head, lines = [], []
     with open_log(name) as file:
         for number, data in enumerate(lines_of(file), 1):

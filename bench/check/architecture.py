@@ -1,10 +1,11 @@
 #!/usr/bin/env python3
-"""Draws docs/architecture.svg: the crates of the program and of the library in groups, and which group depends on which.
+"""Draws docs/architecture.svg: the crates of the program and of the library in groups, and which group depends on
+which.
 
 python3 bench/check/architecture.py [--write]
 
-The edges are those of crates.txt; one that follows from others is left out. Without --write it changes nothing, and the status is 1 where
-the picture is not as it would be drawn, or where crates.txt has a crate in no group.
+The edges are those of crates.txt; one that follows from others is left out. Without --write it changes nothing, and the
+status is 1 where the picture is not as it would be drawn, or where crates.txt has a crate in no group.
 """
 
 import sys
@@ -15,30 +16,53 @@ import page
 import tower
 
 PICTURE = page.TOP / "docs" / "architecture.svg"
-# From the top: the height of each row, and its groups, each with what it is, its crates, and how many of the twelve columns it takes.
-# A group of the first row without a neighbour below it is as high as both rows.
+# From the top: the height of each row, and its groups, each with what it is, its crates, and how many of the twelve
+# columns it takes. A group of the first row without a neighbour below it is as high as both rows.
 ROWS = (
     (52, ("the programs", "postmig uffd_audit console command_line", 9), ("the library for C", "postmig_c", 3)),
     (
         148,
-        ("tools over scripts and frames", "wiretap host_calls frames expected explore finishing history history_order history_search history_judge", 4),
+        (
+            "tools over scripts and frames",
+            "wiretap host_calls frames expected explore finishing history history_order history_search history_judge",
+            4,
+        ),
         ("threads", "threads rig pusher", 2),
         ("logs of calls", "trace_audit audit call_log strace_text log_entries kernel_rules uffd_log", 2),
         ("looking inside", "draw show lint explain", 2),
         ("lone nodes", "nodes", 2),
     ),
-    (52, ("steps to completion", "finish", 3), ("scripts, transcripts and replies as text; pictures", "engine grammar report hosts diagram", 9)),
+    (
+        52,
+        ("steps to completion", "finish", 3),
+        ("scripts, transcripts and replies as text; pictures", "engine grammar report hosts diagram", 9),
+    ),
     (52, ("a migration: both nodes, three wires, and its recovery", "world recovery", 12)),
     (52, ("the source", "precopy dirty_log", 6), ("the destination", "fault_handler owed_pages", 6)),
     (52, ("frames, and the wires that carry them", "wires frame_decoder page_stream", 12)),
-    (52, ("a guest's memory with its userfault object, and its processors", "guest uffd_ioctl userfault area_map page_table vcpu", 12)),
-    (52, ("the machine and the flat memory: what is proved, in definitions and laws", "mig_model mig_laws mig_base frame_texts", 12)),
+    (
+        52,
+        (
+            "a guest's memory with its userfault object, and its processors",
+            "guest uffd_ioctl userfault area_map page_table vcpu",
+            12,
+        ),
+    ),
+    (
+        52,
+        (
+            "the machine and the flat memory: what is proved, in definitions and laws",
+            "mig_model mig_laws mig_base frame_texts",
+            12,
+        ),
+    ),
 )
 WIDTH, COLUMN, COLUMNS, GAP, RISE, LETTER = 748, 60, 12, 12, 26, 7.0
 STYLE = (
     "text{font-family:system-ui,sans-serif;fill:#1f2933}.t{font-size:13px;font-weight:600}"
     ".c{font-size:11.5px;font-family:ui-monospace,monospace;fill:#52606d}"
-    "rect.b{fill:#f5f7fa;stroke:#9aa5b1}rect.w{fill:#e3f2ec;stroke:#3f8f6b}path{stroke:#7b8794;fill:none}#h path{fill:#7b8794;stroke:none}"
+    "rect.b{fill:#f5f7fa;stroke:#9aa5b1}rect.w{fill:#e3f2ec;stroke:#3f8f6b}path{stroke:#7b8794;fill:none}#h "
+    "path{fill:#7b8794;stroke:none}"
 )
 
 
@@ -88,7 +112,9 @@ def edges(found):
     home = {crate: group for group in found for crate in group.crates}
     if missing := {it for top in ("postmig", "uffd_audit", "postmig_c") for it in tower.below(top)} - set(home):
         sys.exit(f"architecture: no group has {', '.join(sorted(missing))}")
-    direct = {group: {home[low] for crate in group.crates for low in known[crate] if low in home} - {group} for group in found}
+    direct = {
+        group: {home[low] for crate in group.crates for low in known[crate] if low in home} - {group} for group in found
+    }
 
     def reached(group):
         return direct[group].union(*(reached(it) for it in direct[group]))
@@ -116,7 +142,10 @@ def drawn():
         f'<svg xmlns="http://www.w3.org/2000/svg" viewBox="0 0 {WIDTH} {height}" width="{WIDTH}" height="{height}">',
         "<title>The crates of postmig: each group depends on those that its arrows lead to</title>",
         f"<style>{STYLE}</style>",
-        '<defs><marker id="h" markerWidth="8" markerHeight="8" refX="4" refY="3" orient="auto"><path d="M0 0L6 3L0 6z"/></marker></defs>',
+        (
+            '<defs><marker id="h" markerWidth="8" markerHeight="8" refX="4" refY="3" orient="auto"><path d="M0 0L6 '
+            '3L0 6z"/></marker></defs>'
+        ),
         f'<rect width="{WIDTH}" height="{height}" fill="#fff"/>',
     ]
     lines += [arrow(*it) for it in sorted(edges(found), key=lambda it: (it[0].row, it[0].x, it[1].x))]

@@ -3,8 +3,9 @@
 
 python3 bench/check/checklists.py
 
-A checklist begins with its name and a grep, whose source files are its places; scripts, cases and pages are none. A file of a crate is named by
-its crate, another by its own name or a folder that it is in. The status is 1 where a place is not named.
+A checklist begins with its name and a grep, whose source files are its places; scripts, cases and pages are none. A
+file of a crate is named by its crate, another by its own name or a folder that it is in. The status is 1 where a place
+is not named.
 """
 
 import pathlib

@@ -1,13 +1,14 @@
 #!/usr/bin/env python3
-"""Runs the commands of the pages, each block of them in one folder a page, and says which ends or prints otherwise than its page has it.
+"""Runs the commands of the pages, each block of them in one folder a page, and says which ends or prints otherwise than
+its page has it.
 
 python3 bench/check/commands.py [PAGE ..]
 
-A block of a page is what is indented by four spaces. One that begins with '$ ' is a session: each line that begins so is a command, and
-the lines below it are what it writes, standard error among it. Any other block whose first word is a program of the pages is a script of
-the shell, and has to end with status 0. A block after a line that ends with `NAME`: is the file NAME. A line with [ .. ], or that ends with
-'..', shows which words a command takes, and is not run; nor is one with a word of LEFT_OUT. 'postmig' is the launcher, which fails where
-there is no proved program.
+A block of a page is what is indented by four spaces. One that begins with '$ ' is a session: each line that begins so
+is a command, and the lines below it are what it writes, standard error among it. Any other block whose first word is a
+program of the pages is a script of the shell, and must end with status 0. A block after a line that ends with `NAME`:
+is the file NAME. A line with [ .. ], or that ends with '..', shows which words a command takes, and is not run; nor is
+one with a word of LEFT_OUT. 'postmig' is the launcher, which fails where there is no proved program.
 """
 
 import os
@@ -65,11 +66,19 @@ def blocks(text):
 
 
 def ran(command, folder, path):
-    """The status of a command of the shell, and what it has written. One that takes too long is ended, with all that it has started."""
+    """The status of a command of the shell, and what it has written. One that takes too long is ended, with all that it
+    has started."""
     environment = {**os.environ, "PATH": path, "HOME": str(folder), "POSTMIG_PROVED_ONLY": "1"}
     child = subprocess.Popen(
-        ["bash", "-euo", "pipefail", "-c", command], cwd=folder, env=environment, start_new_session=True, text=True, errors="replace",
-        stdin=subprocess.DEVNULL, stdout=subprocess.PIPE, stderr=subprocess.STDOUT,
+        ["bash", "-euo", "pipefail", "-c", command],
+        cwd=folder,
+        env=environment,
+        start_new_session=True,
+        text=True,
+        errors="replace",
+        stdin=subprocess.DEVNULL,
+        stdout=subprocess.PIPE,
+        stderr=subprocess.STDOUT,
     )
     try:
         said, _ = child.communicate(timeout=SECONDS)
@@ -80,7 +89,7 @@ def ran(command, folder, path):
 
 
 def session(lines):
-    """The commands of a session, each with the lines that it has to write."""
+    """The commands of a session, each with the lines that it must write."""
     for line in lines:
         if line.startswith("$ "):
             command, wanted = line[2:], []

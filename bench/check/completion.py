@@ -3,7 +3,7 @@
 
 python3 bench/check/completion.py [--program PATH]
 
-Each reads what `postmig completion SHELL` writes. It has to find each subcommand and each option that the help has,
+Each reads what `postmig completion SHELL` writes. It must find each subcommand and each option that the help has,
 and no other, the words that a value may be, and the names of files. The status is 1 where one finds something else, and
 where no shell is here.
 """

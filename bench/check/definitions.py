@@ -1,12 +1,13 @@
 #!/usr/bin/env python3
-"""Counts, promise by promise, the definitions that a reader has to believe: those that its contract names, and those that these name in turn.
+"""Counts, promise by promise, the definitions that a reader must believe: those that its contract names, and those
+that these name in turn.
 
 python3 bench/check/definitions.py [--write | --check | --list PROMISE]
 
-All other definitions serve proofs. So does the table with the enums and structs of the code that these definitions name. Lines are without
-comments. With --write the table goes to docs/DESIGN.md, with
---check the status is 1 where that page has another table. --list prints the definitions of one promise, by its first word, in the order in
-which to read them, and then the enums and structs.
+All other definitions serve proofs. So does the table with the enums and structs of the code that these definitions
+name. Lines are without comments. With --write the table goes to docs/DESIGN.md, with --check the status is 1 where that
+page has another table. --list prints the definitions of one promise, by its first word, in the order in which to read
+them, and then the enums and structs.
 """
 
 import collections
@@ -28,17 +29,33 @@ STARTS = ("abbrev ", "unfoldable ", "record ", "data ", "pub record ", "pub data
 
 # What each row of the table promises, and the definitions or the public calls by which it does so.
 PROMISES = (
-    ("`Core`: the transcript of a world is the run of one flat memory, and completion means that the destination alone holds it", ["world/Core/Core"]),
-    ("`CoreFirst` and `CoreStep`: the same of a new world and after each step; a processor gets the reply of its entry; nothing is installed over a present page; complete stays complete", ["world/Core/CoreFirst", "world/Core/CoreStep"]),
+    (
+        (
+            "`Core`: the transcript of a world is the run of one flat memory, and completion means that the "
+            "destination alone holds it"
+        ),
+        ["world/Core/Core"],
+    ),
+    (
+        (
+            "`CoreFirst` and `CoreStep`: the same of a new world and after each step; a processor gets the reply of "
+            "its entry; "
+            "nothing is installed over a present page; complete stays complete"
+        ),
+        ["world/Core/CoreFirst", "world/Core/CoreStep"],
+    ),
     ("`Headline`: all promises for every world, owed pages on their way among them", ["world/Headline/Headline"]),
-    ("`World::step`, with all that the machine says of a step", ["world::step"]),
     ("`check_script`: `postmig check`", ["engine::check_script"]),
     ("`run_script`: `postmig run`", ["engine::run_script"]),
-    ("`finish`: `postmig finish` completes a migration", ["finish::finish"]),
-    ("`Decoder::feed`: the bytes of frames", ["frame_decoder::feed"]),
-    ("`run_threads`: `postmig threads`", ["threads::run_threads"]),
     ("`two_drivers_are_a_world`: the headline of a driver", ["mig_laws::two_drivers_are_a_world"]),
     ("`certify`: a run of a log is one by the rules of a kernel", ["kernel_rules::certify"]),
+)
+# Others, which --list takes too.
+OTHERS = (
+    ("`step` of a world, with all that the machine says of a step", ["world::step"]),
+    ("`finish`: `postmig finish` completes a migration", ["finish::finish"]),
+    ("`feed` of a decoder: the bytes of frames", ["frame_decoder::feed"]),
+    ("`run_threads`: `postmig threads`", ["threads::run_threads"]),
 )
 
 
@@ -47,7 +64,8 @@ def names(word, text):
 
 
 def imports(text):
-    """The words that a file uses of definitions, each with its crate and its file: (word as it is written here, crate, file, word there)."""
+    """The words that a file uses of definitions, each with its crate and its file: (word as it is written here, crate,
+    file, word there)."""
     for line in text.splitlines():
         found = USE.match(line)
         if not found or not (CRATES / found[1] / "specs" / f"{found[2]}.antt").exists():
@@ -61,15 +79,19 @@ def imports(text):
 
 
 def contracts(text, call=r"\w+"):
-    """The contracts of public functions, or of one of them, of public traits and of iterators, and the types that callers see."""
+    """The contracts of public functions, or of one of them, of public traits and of iterators, and the types that
+    callers see."""
     inside = in_trait = False
     for line in text.splitlines():
         in_trait = line.startswith("pub trait ") or in_trait and not line.startswith("}")
         if re.match(rf'\s*pub (const )?(extern "C" )?fn {call}\b', line):
             inside = True
-        every = call == r"\w+" and (in_trait and not line.lstrip().startswith("//") or "ghost Value" in line or "ghost next_gives" in line)
+        every = (
+            call == r"\w+"
+            and (in_trait and not line.lstrip().startswith("//") or "ghost Value" in line or "ghost next_gives" in line)
+        )
         if inside or every:
-            # (a clause may have a name of its own, which is no definition)
+            # (a clause may have a name of its own, which is not a definition)
             yield re.sub(r"\b(requires|ensures) \w+ \{", "{", line)
         if re.match(r"\s*\{\}?\s*$", line) or line.endswith(" {}"):
             inside = False
@@ -85,7 +107,9 @@ def definitions(text):
     found, name = collections.defaultdict(str), None
     for line in text.splitlines():
         if line.startswith(STARTS) and not line.startswith("use "):
-            words = [it for it in re.split(r"[\s:(]+", line) if it not in ("abbrev", "unfoldable", "record", "data", "pub")]
+            words = [
+                it for it in re.split(r"[\s:(]+", line) if it not in ("abbrev", "unfoldable", "record", "data", "pub")
+            ]
             name = words[0]
         if name and line.strip() and not line.lstrip().startswith("--"):
             found[name] += line + "\n"
@@ -130,10 +154,14 @@ def closure(waiting):
 
 @functools.cache
 def types_in(crate):
-    """The enums and structs of a crate's code that others see: the text of each without comments and attributes, by its name."""
+    """The enums and structs of a crate's code that others see: the text of each without comments and attributes, by its
+    name."""
     texts = (file.read_text() for file in sorted((CRATES / crate / "src").rglob("*.rt")))
     found = [it for text in texts for it in TYPE.finditer(text)]
-    return {it[1]: "\n".join(line for line in it[0].splitlines() if not line.lstrip().startswith(("//", "#"))) for it in found}
+    return {
+        it[1]: "\n".join(line for line in it[0].splitlines() if not line.lstrip().startswith(("//", "#")))
+        for it in found
+    }
 
 
 def declared(text):
@@ -148,8 +176,14 @@ def declared(text):
 
 
 def types_of(found):
-    """The enums and structs of the code that definitions name, and those that these name in turn, each as (crate, type)."""
-    waiting = [it[1:] for crate, file, name in found for it in declared(file_of(crate, file)) if names(it[0], definitions_of(crate, file)[name])]
+    """The enums and structs of the code that definitions name, and those that these name in turn, each as (crate,
+    type)."""
+    waiting = [
+        it[1:]
+        for crate, file, name in found
+        for it in declared(file_of(crate, file))
+        if names(it[0], definitions_of(crate, file)[name])
+    ]
     seen = set()
     while waiting:
         crate, name = at = waiting.pop()
@@ -165,9 +199,14 @@ def lines_in(found):
 
 
 def in_order(found):
-    """The files of definitions in the order in which to read them, lowest crate first, with the number of definitions in each."""
+    """The files of definitions in the order in which to read them, lowest crate first, with the number of definitions
+    in each."""
     count = collections.Counter((crate, file) for crate, file, _ in found)
-    return [(crate, sorted((file, count[crate, file]) for at, file in count if at == crate)) for crate in product() if any(at == crate for at, _ in count)]
+    return [
+        (crate, sorted((file, count[crate, file]) for at, file in count if at == crate))
+        for crate in product()
+        if any(at == crate for at, _ in count)
+    ]
 
 
 def row(label, found):
@@ -193,12 +232,16 @@ def table():
 
 
 def list_one(word):
-    for label, promises in PROMISES:
+    for label, promises in PROMISES + OTHERS:
         if word in re.findall(r"\w+", label)[:2]:
             found = closure(it for promise in promises for it in roots(promise))
             for crate, files in in_order(found):
                 for file, _ in files:
-                    print(f"crates/{crate}/specs/{file}.antt: " + ", ".join(name for name in definitions_of(crate, file) if (crate, file, name) in found))
+                    print(
+                        f"crates/{crate}/specs/{file}.antt: " + ", ".join(
+                            name for name in definitions_of(crate, file) if (crate, file, name) in found
+                        )
+                    )
             for crate in product():
                 if types := sorted(name for at, name in types_of(found) if at == crate):
                     print(f"crates/{crate}/src: " + ", ".join(types))
@@ -214,7 +257,10 @@ def main():
     if words == ["--check"]:
         stands = DESIGN.read_text()
         if page.replaced(stands, part, text, DESIGN) != stands:
-            raise SystemExit("docs/DESIGN.md: what has to be believed is not as 'python3 bench/check/definitions.py --write' makes it")
+            raise SystemExit(
+                "docs/DESIGN.md: what has to be believed is not as 'python3 bench/check/definitions.py --write' makes "
+                "it"
+            )
         return
     print(text)
     if words == ["--write"]:

@@ -3,10 +3,11 @@
 
 python3 bench/check/edits.py [--check] [CRATE ..]
 
-Where no crate is named, all crates that have such edits are tried. With --check nothing is proved: each edit is applied to the text of its
-crate, and the status is 1 where one does not fit any more. It makes a clean clone of what is committed, in a temporary folder.
-There it puts the edits of bench/edits/CRATE into crates/CRATE/must-fail, where the gate's own edits are taken out, and runs 'rt must-fail'.
-It prints what rt says and, last, how many edits were refused. It ends with the status of rt. The clone is removed at the end.
+Where no crate is named, all crates that have such edits are tried. With --check nothing is proved: each edit is applied
+to the text of its crate, and the status is 1 where one does not fit any more. It makes a clean clone of what is
+committed, in a temporary folder. There it puts the edits of bench/edits/CRATE into crates/CRATE/must-fail, where the
+gate's own edits are taken out, and runs 'rt must-fail'. It prints what rt says and, last, how many edits were refused.
+It ends with the status of rt. The clone is removed at the end.
 """
 
 import collections
@@ -20,8 +21,13 @@ import shared  # noqa: F401
 
 import page
 
-# What rt says of an edit, behind its name.
-ENDS = {"refused": ": refused, as it must be", "not refused": ": NOT REFUSED", "bad": ": BAD EDIT", "not tried": ": NOT TRIED"}
+# What rt says of an edit, after its name.
+ENDS = {
+    "refused": ": refused, as it must be",
+    "not refused": ": NOT REFUSED",
+    "bad": ": BAD EDIT",
+    "not tried": ": NOT TRIED",
+}
 
 
 def crates_with_edits():
@@ -59,7 +65,7 @@ def misfit(folder, edit):
             old = line.removeprefix("old: ")
         elif line.startswith("new:"):
             if path is None or old is None:
-                return "a 'new:' line stands before any 'file:' or 'old:' line"
+                return "a 'new:' line is before any 'file:' or 'old:' line"
             if (count := texts[path].count(old)) != 1:
                 return f"an 'old:' text is in {path} {count} times, and not once"
             texts[path], old = texts[path].replace(old, line.removeprefix("new:").removeprefix(" ")), None
@@ -77,9 +83,11 @@ def check(crates):
 
 
 def tried(clone, crates):
-    """Runs rt, prints what it says as it comes, and returns its status and how many edits came to which end."""
+    """Runs rt, prints what it says as it comes, and returns its status and how many edits ended in which way."""
     ends = collections.Counter()
-    child = subprocess.Popen(["rt", "must-fail", *crates], cwd=clone, stdout=subprocess.PIPE, stderr=subprocess.STDOUT, text=True)
+    child = subprocess.Popen(
+        ["rt", "must-fail", *crates], cwd=clone, stdout=subprocess.PIPE, stderr=subprocess.STDOUT, text=True
+    )
     for line in child.stdout:
         print(line, end="", flush=True)
         ends.update(end for end, words in ENDS.items() if words in line)

@@ -1,5 +1,6 @@
 #!/usr/bin/env python3
-"""Has bench/compare/explore.py judge a few scripts of each profile, among them those at the limits of what `postmig explore` takes.
+"""Has bench/compare/explore.py judge a few scripts of each profile, among them those at the limits of what `postmig
+explore` takes.
 
 python3 bench/check/explored.py [--program PATH]
 """
@@ -29,7 +30,9 @@ RUNS = (
 def has_one_text(program):
     """Whether a seed gives one text, another seed another one, and a sweep more lines."""
     explore = [program, "explore", "--lines", "100", "--seed"]
-    seven, again, eight, swept = (written([*explore, *words]).splitlines()[1:] for words in (["7"], ["7"], ["8"], ["7", "--sweep"]))
+    seven, again, eight, swept = (
+        written([*explore, *words]).splitlines()[1:] for words in (["7"], ["7"], ["8"], ["7", "--sweep"])
+    )
     return seven == again and seven != eight and len(swept) > len(seven) == 100
 
 

@@ -3,8 +3,9 @@
 
 python3 bench/check/faults.py
 
-The test `faults` of tool_tests compares its lines with what `Display` writes. Each type of the product that derives `Error`, and each of its
-variants, must have a line there, and each line must be of such a type. The status is 1 otherwise.
+The test `faults` of tool_tests compares its lines with what `Display` writes. Each type of the product that derives
+`Error`, and each of its variants, must have a line there, and each line must be of such a type. The status is 1
+otherwise.
 """
 
 import re
@@ -28,7 +29,10 @@ def types():
             text = file.read_text()
             for found in TYPE.finditer(text):
                 body = text[found.end() :].partition("\n}")[0]
-                yield found[2], [f"{found[2]}::{it}" for it in VARIANT.findall(body)] if found[1] == "enum" else [found[2]]
+                yield (
+                    found[2],
+                    [f"{found[2]}::{it}" for it in VARIANT.findall(body)] if found[1] == "enum" else [found[2]],
+                )
 
 
 def main():
@@ -37,7 +41,9 @@ def main():
     known, faults = set(), [] if lines else [f"{TEST.name} has no lines"]
     for name, begins in types():
         known.add(name)
-        faults += [f"{TEST.name} has no line of {it}" for it in begins if not any(re.match(rf"{it}\b", line) for line in lines)]
+        faults += [
+            f"{TEST.name} has no line of {it}" for it in begins if not any(re.match(rf"{it}\b", line) for line in lines)
+        ]
     named = [re.match(r"\w+", line)[0] for line in lines]
     faults += [f"{TEST.name}: no fault is called {it}" for it in named if it not in known]
     page.end(faults, f"{len(lines)} texts of faults")

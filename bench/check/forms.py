@@ -3,8 +3,9 @@
 
 python3 bench/check/forms.py
 
-Its table of forms names each call as CRATE::CALL or CRATE::TYPE::CALL: that must be a public function, and each piece of code under 'Here'
-must stand in its signature or in one of its `requires`. The status is 1 where one does not, or where the table has no row.
+Its table of forms names each call as CRATE::CALL or CRATE::TYPE::CALL: that must be a public function, and each piece
+of code under 'Here' must be in its signature or in one of its `requires`. The status is 1 where one does not, or
+where the table has no row.
 """
 
 import functools
@@ -32,7 +33,8 @@ def rows(text, head):
 
 @functools.cache
 def public_calls(crate):
-    """The public functions of a crate by TYPE::CALL or CALL, each with its signature and what it requires, with blanks as one blank."""
+    """The public functions of a crate by TYPE::CALL or CALL, each with its signature and what it requires, with blanks
+    as one blank."""
     files, handed_out = public_modules(crate)
     types, found = public_types(crate), {}
     for file in sorted((CRATES / crate / "src").rglob("*.rt")):
@@ -52,7 +54,9 @@ def faults_of(name, pieces):
     elif (form := public_calls(crate).get(call)) is None:
         yield f"{crate} has no public function {call}"
     else:
-        yield from (f"neither the signature of {name} nor what it requires has '{it}'" for it in pieces if it not in form)
+        yield from (
+            f"neither the signature of {name} nor what it requires has '{it}'" for it in pieces if it not in form
+        )
 
 
 def main():

@@ -3,9 +3,9 @@
 
 python3 bench/check/links.py
 
-Of each *.md at the top and in docs/, and of the README.md of bench/, conformance/ and audit/: a relative link names a file that is there, and
-after # a heading of it. A link whose text is the name of a function and which leads to a source file finds that function there. The
-status is 1 where one does not.
+Of each *.md at the top and in docs/, and of the pages of bench/, conformance/, audit/, history/ and live/: a relative
+link names a file that is there, and after # a heading of it. A link whose text is the name of a function and which
+leads to a source file finds that function there. The status is 1 where one does not.
 """
 
 import functools
@@ -19,8 +19,11 @@ LINK = re.compile(r"\[([^\]]*)\]\(([^)\s]+)\)")
 
 
 def pages():
-    others = [page.TOP / folder / "README.md" for folder in ("bench", "conformance", "audit")]
-    return [*sorted(page.TOP.glob("*.md")), *sorted((page.TOP / "docs").glob("*.md")), *others]
+    others = [page.TOP / folder / "README.md" for folder in ("bench", "conformance", "audit", "history", "live")]
+    return [
+        *sorted(page.TOP.glob("*.md")), *sorted((page.TOP / "docs").glob("*.md")), *others,
+        page.TOP / "live" / "OPERATION.md",
+    ]
 
 
 @functools.lru_cache(maxsize=None)

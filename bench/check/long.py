@@ -3,9 +3,10 @@
 
 python3 bench/check/long.py [--program PATH]
 
-A guest of 128 MiB is migrated after the switch, page by page, and then stores to as many new pages. Each line must have its answer: no
-clause says that memory is found for a late line. The run may never hold much more than two guests: what a released source holds no clause
-says either, and with it there would be three. Then the transcript must be right to its end. The status is 1 where one of these fails.
+A guest of 128 MiB is migrated after the switch, page by page, and then stores to as many new pages. Each line must have
+its answer: no clause says that memory is found for a late line. The run may never hold much more than two guests: what
+a released source holds no clause says either, and with it there would be three. Then the transcript must be right to
+its end. The status is 1 where one of these fails.
 """
 
 import argparse
@@ -75,7 +76,9 @@ def main():
         faults.append(f"check: status {checked.returncode}, {checked.stdout[:80]}")
     print(*(f"long: {it}" for it in faults), sep="\n", end="\n" if faults else "")
     lines = given.count(b"\n")
-    print(f"long: a run of {lines:,} lines with {most >> 20} MiB, {2 * PAGES + 2:,} entries checked, {len(faults)} faults")
+    print(
+        f"long: a run of {lines:,} lines with {most >> 20} MiB, {2 * PAGES + 2:,} entries checked, {len(faults)} faults"
+    )
     return 1 if faults else 0
 
 

@@ -3,9 +3,10 @@
 
 python3 bench/check/measures.py [--list MEASURE] [--write]
 
-Prints the measures and, of each group of crates, its lines and how much of its functions' bodies lies in functions with an `ensures`. The
-status is 1 where a measure is above its greatest value; --write lowers the values, and never raises one. --list names what a measure counts,
-the greatest first. A clause's length is that of its text joined over its lines.
+Prints the measures and, of each group of crates, its lines and how much of its functions' bodies lies in functions with
+an `ensures`. The status is 1 where a measure is above its greatest value; --write lowers the values, and never raises
+one. --list names what a measure counts, the greatest first. A clause's length is that of its text joined over its
+lines.
 """
 
 import argparse
@@ -40,10 +41,14 @@ class Function:
 
 
 def body_begin(lines, at, indent):
-    """The line that ends with the bracket of the body of the function whose first line is `at`; None for a function without one."""
+    """The line that ends with the bracket of the body of the function whose first line is `at`; None for a function
+    without one."""
     for end in range(at, len(lines)):
         line = lines[end].rstrip()
-        if line == indent + "{" or line.endswith("{") and not CLAUSE.match(line + " ") and (end == at or line.startswith(indent + ")")):
+        if (
+            line == indent + "{"
+            or line.endswith("{") and not CLAUSE.match(line + " ") and (end == at or line.startswith(indent + ")"))
+        ):
             return end
         if line.endswith(";"):
             return None
@@ -95,7 +100,9 @@ def sources(crate, part):
 
 
 def tracked(form):
-    listed = subprocess.run(["git", "ls-files", form], cwd=page.TOP, capture_output=True, text=True, check=True).stdout.split()
+    listed = subprocess.run(
+        ["git", "ls-files", form], cwd=page.TOP, capture_output=True, text=True, check=True
+    ).stdout.split()
     return [it for it in listed if (page.TOP / it).is_file()]
 
 
@@ -172,8 +179,12 @@ class House:
     def values(self):
         sums = {"words of pages", "calls of split_line"}
         greatest = {"lines of the longest file", "longest chain of crates"}
-        counted = {name: sum(weight for weight, _ in found) if name in sums else max(found)[0] if name in greatest else len(found)
-                   for name, found in self.found.items()}
+        counted = {
+            name: sum(weight for weight, _ in found) if name in sums else max(found)[0] if name in greatest else len(
+                found
+            )
+            for name, found in self.found.items()
+        }
         return {**counted, **self.unpromised()}
 
 

@@ -1,5 +1,6 @@
 #!/usr/bin/env python3
-"""Tests the model of bench/model by what the pages say: its frames by the examples of docs/FORMATS.md, its nodes by whole migrations.
+"""Tests the model of bench/model by what the pages say: its frames by the examples of docs/FORMATS.md, its nodes by
+whole migrations.
 
 python3 bench/check/model_tests.py [-v] [TEST ..]
 """
@@ -24,7 +25,10 @@ FRAMES = (
     ("page", {"page": LOW, "bytes": ONES}),
     ("zero", {"page": HIGH - 1}),
     ("discard", {"pages": [(LOW, 1), (LOW + 2, HIGH - LOW - 2)]}),
-    ("package", {"areas": [(LOW, 1, 1), (LOW + 1, 3, 2)], "owed": [(LOW, 2)], "commands": [(), (0, 8), (6, 2, 0xFFFF)]}),
+    (
+        "package",
+        {"areas": [(LOW, 1, 1), (LOW + 1, 3, 2)], "owed": [(LOW, 2)], "commands": [(), (0, 8), (6, 2, 0xFFFF)]},
+    ),
     ("end", {"urgent": 2**32 - 1}),
     ("resume", {}),
     ("run", {"page": HIGH - 2, "count": 2, "bytes": ONES + TWOS}),
@@ -95,8 +99,16 @@ class Frames(unittest.TestCase):
 
     def test_headers(self):
         advise = encode(1, "advise", {})
-        cases = [(b"\3" + advise[1:], "BadTag"), (advise + encode(1, "advise", {}, 1), "BadTag"), (advise[:1] + b"\x09" + advise[2:], "BadTag")]
-        cases += [(advise[:2] + b"\1" + advise[3:], "BadField"), (advise[:11] + b"\1", "BadLength"), (advise[:11], "truncated")]
+        cases = [
+            (b"\3" + advise[1:], "BadTag"),
+            (advise + encode(1, "advise", {}, 1), "BadTag"),
+            (advise[:1] + b"\x09" + advise[2:], "BadTag"),
+        ]
+        cases += [
+            (advise[:2] + b"\1" + advise[3:], "BadField"),
+            (advise[:11] + b"\1", "BadLength"),
+            (advise[:11], "truncated"),
+        ]
         for text, wanted in cases:
             self.assertEqual(read(text)[2], wanted, text)
 
@@ -216,7 +228,10 @@ class Nodes(unittest.TestCase):
         for number in (LOW, LOW + 1):
             self.source.push(number)
             self.deliver()
-        self.assertEqual([self.destination.install(), self.destination.install()], ["installed 0x13000 from 0x10000", "dropped 0x11000"])
+        self.assertEqual(
+            [self.destination.install(), self.destination.install()],
+            ["installed 0x13000 from 0x10000", "dropped 0x11000"],
+        )
         self.refused("NothingThere", self.destination.install)
 
     def test_kept_copies(self):
@@ -225,7 +240,9 @@ class Nodes(unittest.TestCase):
             self.destination.take(*it)
         self.assertEqual(self.destination.kept, {LOW: TWOS})
         right = {"areas": ALL, "owed": [(LOW + 1, 1)], "commands": [()]}
-        for wrong in ({"owed": [(LOW, 1)]}, {"owed": [(LOW + 4, 1)]}, {"areas": [(LOW + 1, 3, 2)]}, {"commands": 2 * [()]}):
+        for wrong in (
+            {"owed": [(LOW, 1)]}, {"owed": [(LOW + 4, 1)]}, {"areas": [(LOW + 1, 3, 2)]}, {"commands": 2 * [()]}
+        ):
             self.refused("BadFrame", self.destination.take, 1, "package", {**right, **wrong})
         self.destination.take(1, "package", right)
         self.assertEqual(self.destination.memory, {LOW: TWOS})

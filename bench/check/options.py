@@ -3,10 +3,10 @@
 
 python3 bench/check/options.py [--program PATH]
 
-Each case is a command line with the status that it must have, and what its last line must have: options of a wrong form, names of nothing,
-files that are not there. With a program there are inputs in which nothing is to be compared as well. Nothing may print a trace of a stack.
-With --json each line of the output must be a JSON object.
-The status is 1 where a case ends otherwise.
+Each case is a command line with the status that it must have, and what its last line must have: options of a wrong
+form, names of nothing, files that are not there. With a program there are inputs in which nothing is to be compared as
+well. Nothing may print a trace of a stack. With --json each line of the output must be a JSON object. The status is 1
+where a case ends otherwise.
 """
 
 import argparse
@@ -84,13 +84,18 @@ def ended(case):
     """What is wrong with the end of a case, if something is."""
     line, status, last = case
     try:
-        ran = subprocess.run(line.split(), cwd=page.TOP, stdin=subprocess.DEVNULL, capture_output=True, text=True, timeout=120)
+        ran = subprocess.run(
+            line.split(), cwd=page.TOP, stdin=subprocess.DEVNULL, capture_output=True, text=True, timeout=120
+        )
     except subprocess.TimeoutExpired:
         return f"{line}: no end within two minutes"
     said = (ran.stderr.strip() or ran.stdout.strip()).splitlines()[-1:]
     if "Traceback" in ran.stderr:
         return f"{line}: a trace of the stack: {said}"
-    if "--json" in line and not all(it.startswith("{") and json.loads(it) for it in ran.stdout.splitlines() if "not run: " not in it):
+    if (
+        "--json" in line
+        and not all(it.startswith("{") and json.loads(it) for it in ran.stdout.splitlines() if "not run: " not in it)
+    ):
         return f"{line}: not JSON: {ran.stdout[:200]}"
     # A machine that cannot replay says so, and that is all it does.
     if ran.returncode == 2 and "conformance: not run: " in ran.stdout:

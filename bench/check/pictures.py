@@ -3,11 +3,12 @@
 
 python3 bench/check/pictures.py --write | --check | --parse [SCRIPTS] [--program PATH]
 
-Run it once ./postmig prove or rt ci has built the program. --write draws the pictures of docs/pictures anew: four examples, and the scripts
-and the wrong histories that are beside their pictures. --check draws them too, and its status is not 0 if one differs, is missing, or cannot be read, or if there
-is no program. --parse draws every example and SCRIPTS explored scripts (200), and reads each picture. A picture that can be read is
-well-formed XML, its root is `svg`, it has only elements and attributes that a picture has, no reference to anything outside, and less than
-4,000,000 bytes.
+Run it once ./postmig prove or rt ci has built the program. --write redraws the pictures of docs/pictures: four
+examples, and the scripts and the wrong histories that are beside their pictures. --check draws them too, and its status
+is not 0 if one differs, is missing, or cannot be read, or if there is no program. --parse draws every example and
+SCRIPTS explored scripts (200), and reads each picture. A picture that can be read is well-formed XML, its root is
+`svg`, it has only elements and attributes that a picture has, no reference to anything outside, and less than 4,000,000
+bytes.
 """
 
 import argparse
@@ -97,7 +98,10 @@ def parse(program, scripts):
         most = max(most, judge(script.name, drawn(program, b"", name=script.name)))
         count += 1
     for seed in range(scripts):
-        words = ["--seed", str(seed), "--profile", PROFILES[seed % len(PROFILES)], "--lines", str(50 + 7 * seed), "--pages", str(4 + seed)]
+        words = [
+            "--seed", str(seed), "--profile", PROFILES[seed % len(PROFILES)], "--lines", str(50 + 7 * seed), "--pages",
+            str(4 + seed),
+        ]
         script = written([program, "explore", *words, "--cpus", "4"])
         most = max(most, judge(" ".join(words), drawn(program, script, cpus=4)))
         count += 1

@@ -1,24 +1,27 @@
 #!/usr/bin/env python3
-"""Runs the programs on the arguments, files and input of bench/programs, and compares what they write, and their status.
+"""Runs the programs on the arguments, files and input of bench/programs, and compares what they write, and their
+status.
 
 python3 bench/check/programs.py [--program PATH] [--audit PATH] [CASE ..]
 
-A case is a folder: args has an argument a line, stdin the standard input, data/ the files that lie where the program runs, after/ those
-that have to lie there then, stdout and stderr what it has to write, and status its exit status. What is absent is empty, and the status 0;
-only where the status is another is an absent stderr not compared. In the file output is a path that standard output goes to in place of a
-pipe, and in memory the bytes of address space that the program may take. Where there is a file typed, its lines are typed at a terminal, and
-stdout is all that the terminal then shows but what was typed. The file environment has variables of such a case, as
-NAME=VALUE; NO_COLOR is otherwise empty.
+A case is a folder: args has an argument a line, stdin the standard input, data/ the files that lie where the program
+runs, after/ those that must be there then, stdout and stderr what it must write, and status its exit status. What
+is absent is empty, and the status 0; only where the status is another is an absent stderr not compared. In the file
+output is a path that standard output goes to in place of a pipe, and in memory the bytes of address space that the
+program may take. Where there is a file typed, its lines are typed at a terminal, and stdout is all that the terminal
+then shows but what was typed. The file environment has variables of such a case, as NAME=VALUE; NO_COLOR is otherwise
+empty.
 
-A case with a file session runs the program several times, one after another. A line that begins with '$ postmig ' has the arguments, as a
-shell reads them; the lines below it are what that writes to standard output and then to standard error, and '[N]' as the last of them is a
-status that is not 0.
+A case with a file session runs the program several times, one after another. A line that begins with '$ postmig ' has
+the arguments, as a shell reads them; the lines below it are what that writes to standard output and then to standard
+error, and '[N]' as the last of them is a status that is not 0.
 
-A case is of postmig; one whose arguments begin with 'audit' is of uffd-audit with those after it, as ./postmig runs them.
+A case is of postmig; one whose arguments begin with 'audit' is of uffd-audit with those after it, as ./postmig runs
+them.
 
-It runs the proved builds: crates/postmig/out/postmig and crates/uffd_audit/out/uffd_audit, as LLVM makes them, and beside
-each, where rt ci has left one, that of Rattle's own compiler; or with --program and --audit these alone. The cases of a
-program that is not there are left out.
+It runs the proved builds: crates/postmig/out/postmig and crates/uffd_audit/out/uffd_audit, as LLVM makes them, and
+beside each, where rt ci has left one, that of Rattle's own compiler; or with --program and --audit these alone. The
+cases of a program that is not there are left out.
 """
 
 import argparse
@@ -99,7 +102,7 @@ def typed(words, lines, folder, variables):
 
 
 def changed(case, data):
-    """The names of the files that are not as they have to be after a case."""
+    """The names of the files that are not as they must be after a case."""
     wanted = sorted((case / "after").iterdir()) if (case / "after").is_dir() else []
     return [file.name for file in wanted if part(data, file.name) != file.read_bytes()]
 
@@ -116,7 +119,7 @@ def command(program, words):
 
 
 def ran(case, program):
-    """How the program ends on a case, and the names of the files that are then not as they have to be."""
+    """How the program ends on a case, and the names of the files that are then not as they must be."""
     words = command(program, part(case, "args").splitlines())
     memory, output = part(case, "memory"), part(case, "output").decode().strip()
 
@@ -129,7 +132,9 @@ def ran(case, program):
             return typed(words, part(case, "typed"), data, environment(case)), []
     with room(case) as data, open(output, "wb") if output else contextlib.nullcontext(subprocess.PIPE) as to:
         given = part(case, "stdin")
-        ended = subprocess.run(words, input=given, cwd=data, stdout=to, stderr=subprocess.PIPE, timeout=60, preexec_fn=limit)
+        ended = subprocess.run(
+            words, input=given, cwd=data, stdout=to, stderr=subprocess.PIPE, timeout=60, preexec_fn=limit
+        )
         return ended, changed(case, data)
 
 
@@ -171,8 +176,12 @@ def faults(case, program):
 
 def asked():
     parser = argparse.ArgumentParser(description="Runs the programs on the cases of bench/programs.")
-    parser.add_argument("--program", type=pathlib.Path, metavar="PATH", help="a build of postmig, in place of the proved ones")
-    parser.add_argument("--audit", type=pathlib.Path, metavar="PATH", help="a build of uffd-audit, in place of the proved ones")
+    parser.add_argument(
+        "--program", type=pathlib.Path, metavar="PATH", help="a build of postmig, in place of the proved ones"
+    )
+    parser.add_argument(
+        "--audit", type=pathlib.Path, metavar="PATH", help="a build of uffd-audit, in place of the proved ones"
+    )
     parser.add_argument("cases", nargs="*", metavar="CASE", help="the cases, all where none is named")
     return parser.parse_args()
 

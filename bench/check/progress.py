@@ -3,9 +3,10 @@
 
 python3 bench/check/progress.py [--program PATH]
 
-Where standard error is a terminal, it has to show how far the command is, and in the end nothing but what the command writes of the same log
-where that is quick and no terminal is there; standard output has to be the same bytes. Of a quick log, of one that is typed, and without a
-terminal nothing may be shown. It runs the proved builds as programs.py does; or with --program that one alone.
+Where standard error is a terminal, it must show how far the command is, and in the end nothing but what the command
+writes of the same log where that is quick and no terminal is there; standard output must be the same bytes. Of a
+quick log, of one that is typed, and without a terminal nothing may be shown. It runs the proved builds as programs.py
+does; or with --program that one alone.
 """
 
 import argparse
@@ -86,8 +87,8 @@ def feed(child, terminal, pieces):
 
 
 def ran(words, streams, drive, folder=None):
-    """How a program ends of which these streams, of 0, 1 and 2, are one terminal, and what that has shown. `drive` gets the process and the
-    terminal while it runs."""
+    """How a program ends of which these streams, of 0, 1 and 2, are one terminal, and what that has shown. `drive` gets
+    the process and the terminal while it runs."""
     terminal, other = pty.openpty()
     modes = termios.tcgetattr(other)
     modes[3] &= ~termios.ECHO
@@ -123,8 +124,8 @@ def differences(wanted, ended, shown, streams):
 
 
 def unsaid(shown, name, total, share=rb""):
-    """What is wrong with the lines of progress that a terminal has shown: at least one of the lines that were read so far, and then one that
-    all were read and their calls are judged. `share` is what the former has after the number."""
+    """What is wrong with the lines of progress that a terminal has shown: at least one of the lines that were read so
+    far, and then one that all were read and their calls are judged. `share` is what the former has after the number."""
     found = re.findall(rb"\r([^\n\r\x1b]+)\x1b\[K", shown)
     read = [re.fullmatch(name + rb": (\d+) lines read" + share, text) for text in found[:-1]]
     if not read or not all(it and 0 < int(it[1]) <= total for it in read):
@@ -168,7 +169,8 @@ def position(child, file):
 
 
 def hold(child, _, file, places):
-    """Stops a program once it has begun to read a file, lets it continue after a pause, and adds how far it had read."""
+    """Stops a program once it has begun to read a file, lets it continue after a pause, and adds how far it had
+    read."""
     child.stdin.close()
     while child.poll() is None and not position(child, file):
         time.sleep(0.0005)
@@ -214,19 +216,25 @@ def jobs():
     for name, pieces in INPUTS.items():
         yield f"{name}, at once", functools.partial(quick, pieces=pieces)
         for streams in ([2], [1, 2], [1], []):
-            yield f"{name}, with streams {streams} at a terminal", functools.partial(slow, pieces=pieces, streams=streams)
+            yield (
+                f"{name}, with streams {streams} at a terminal", functools.partial(slow, pieces=pieces, streams=streams)
+            )
     yield "a log that is typed", functools.partial(slow, pieces=INPUTS["a log"], streams=[0, 1, 2])
     yield "a file", file
 
 
 def main():
     parser = argparse.ArgumentParser(description="Runs uffd-audit on logs that are slow.")
-    parser.add_argument("--program", type=pathlib.Path, metavar="PATH", help="a build of the program, in place of the proved ones")
+    parser.add_argument(
+        "--program", type=pathlib.Path, metavar="PATH", help="a build of the program, in place of the proved ones"
+    )
     arguments = parser.parse_args()
     builds = [arguments.program.absolute()] if arguments.program else programs.builds("uffd_audit")
     if not builds:
         sys.exit("progress: there is no proved build: ./postmig prove or rt ci makes one")
-    tried = [(f"{name}, by {program.name}", functools.partial(job, program)) for program in builds for name, job in jobs()]
+    tried = [
+        (f"{name}, by {program.name}", functools.partial(job, program)) for program in builds for name, job in jobs()
+    ]
     wrong = 0
     # (nearly all of their time they wait)
     with concurrent.futures.ThreadPoolExecutor(len(tried)) as pool:

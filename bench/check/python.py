@@ -3,9 +3,10 @@
 
 python3 bench/check/python.py
 
-The library is that of dist/, or of release/ where it is of these sources; else nothing is tested, which is said. The status is 1 where an example
-runs otherwise than its output says, where a check, a listing, a decoder or a pair of nodes answers otherwise than the pages say, or where the
-package does not name its version. It needs no pip: the wheel is made as pip has it made, and unpacked.
+The library is that of dist/, or of release/ where it is of these sources; else nothing is tested, which is said. The
+status is 1 where an example runs otherwise than its output says, where a check, a listing, a decoder or a pair of nodes
+answers otherwise than the pages say, or where the package does not name its version. It needs no pip: the wheel is made
+as pip has it made, and unpacked.
 """
 
 import os
@@ -22,7 +23,8 @@ import page
 PYTHON = page.TOP / "python"
 LIBRARY = page.TOP / "dist" / "libpostmig.so"
 
-USE = r'''
+USE = (
+    r'''
 import pathlib, sys
 import postmig
 from postmig import nodes
@@ -85,11 +87,14 @@ with postmig.Source() as source, postmig.Destination() as destination, postmig.F
         equal("a refusal", str(refused), "Phase")
 print(f"python: {count} examples, two nodes, a decoder and a listing, by the installed package")
 '''
+)
 
 
 def main():
     page.option()
-    if subprocess.run([page.TOP / "postmig", "sources", "postmig_c"], capture_output=True, text=True).stdout.strip().endswith("not proved"):
+    if subprocess.run(
+        [page.TOP / "postmig", "sources", "postmig_c"], capture_output=True, text=True
+    ).stdout.strip().endswith("not proved"):
         print("python: left out, there is no library of these sources: ./postmig library --build makes it")
         return 0
     if not LIBRARY.is_file():
@@ -105,8 +110,19 @@ def main():
         missing = {f"postmig/{path.name}" for path in (PYTHON / "postmig").iterdir() if path.is_file()} - set(names)
         if missing:
             sys.exit(f"python: not in the wheel: {', '.join(sorted(missing))}")
-        environment = {**os.environ, "PYTHONPATH": str(room / "site"), "POSTMIG_LIBRARY": str(LIBRARY), "PYTHONDONTWRITEBYTECODE": "1"}
-        ran = subprocess.run([sys.executable, "-c", USE, page.TOP / "examples"], cwd=folder, env=environment, capture_output=True, text=True)
+        environment = {
+            **os.environ,
+            "PYTHONPATH": str(room / "site"),
+            "POSTMIG_LIBRARY": str(LIBRARY),
+            "PYTHONDONTWRITEBYTECODE": "1",
+        }
+        ran = subprocess.run(
+            [sys.executable, "-c", USE, page.TOP / "examples"],
+            cwd=folder,
+            env=environment,
+            capture_output=True,
+            text=True,
+        )
     print(ran.stdout + ran.stderr, end="")
     return 1 if ran.returncode else 0
 

@@ -1,7 +1,7 @@
 #!/usr/bin/env python3
-"""Checks that code which a page quotes from a file stands there: a block of Rust behind a line with a link to a .rt file is a part of
-that file, and a block of Python or C behind a line with a link to a .py or .c file is that file. Prints what does not stand, and has the
-status 1 then.
+"""Checks that code which a page quotes from a file is there: a block of Rust after a line with a link to a .rt
+file is a part of that file, and a block of Python or C after a line with a link to a .py or .c file is that file.
+Prints what is not, and has the status 1 then.
 
 python3 bench/check/quotes.py
 """
@@ -22,7 +22,8 @@ QUOTED = {
 
 
 def quotes(file):
-    """The blocks of a page that follow a line with a link to one file, with that file, and whether the block is all of it."""
+    """The blocks of a page that follow a line with a link to one file, with that file, and whether the block is all of
+    it."""
     linked, whole, block, before = None, False, None, ""
     for line in file.read_text().splitlines():
         if block is not None:

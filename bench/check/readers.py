@@ -1,10 +1,12 @@
 #!/usr/bin/env python3
-"""Gives each command that reads lines an input without an end and without a line feed: it has to stop at its first line, in little memory.
+"""Gives each command that reads lines an input without an end and without a line feed: it must stop at its first
+line, in little memory.
 
 python3 bench/check/readers.py [--program PATH]
 
-The input is /dev/zero, as FILE and as standard input, and a letter over and over from a pipe, each alone and after a line of a script. A
-command has 64 MiB of address space, and 20 s. It runs the proved builds, as programs.py does; or with --program that one alone.
+The input is /dev/zero, as FILE and as standard input, and a letter over and over from a pipe, each alone and after a
+line of a script. A command has 64 MiB of address space, and 20 s. It runs the proved builds, as programs.py does; or
+with --program that one alone.
 """
 
 import argparse
@@ -97,7 +99,9 @@ def cases(program):
 
 def asked():
     parser = argparse.ArgumentParser(description="Gives each command an input without an end.")
-    parser.add_argument("--program", type=pathlib.Path, metavar="PATH", help="a build of the program, in place of the proved ones")
+    parser.add_argument(
+        "--program", type=pathlib.Path, metavar="PATH", help="a build of the program, in place of the proved ones"
+    )
     return parser.parse_args()
 
 

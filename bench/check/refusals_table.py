@@ -1,11 +1,13 @@
 #!/usr/bin/env python3
-"""Lists the public calls of the library that can be refused: why, in which order, whether for memory, and which clauses say so.
+"""Lists the public calls of the library that can be refused: why, in which order, whether for memory, and which clauses
+say so.
 
 python3 bench/check/refusals_table.py [--write | --check]
 
-With --write the tables go to dist/REFUSALS.md; with --check nothing is printed but what is wrong. docs/REFUSALS.md explains them.
-Calls, their answers and their clauses are read from crates/*/src. The order of the refusals is written by hand, in bench/refusals.txt.
-That an order has NoMemory exactly where the contract allows it, and only names of the call's fault, is checked each time.
+With --write the tables go to dist/REFUSALS.md; with --check nothing is printed but what is wrong. docs/REFUSALS.md
+explains them. Calls, their answers and their clauses are read from crates/*/src. The order of the refusals is written
+by hand, in bench/refusals.txt. That an order has NoMemory exactly where the contract allows it, and only names of the
+call's fault, is checked each time.
 """
 
 import collections
@@ -51,7 +53,8 @@ def public_types(crate):
 
 
 def blocks(text):
-    """The public functions of a file: the type of the impl block that each stands in, its name, and its lines up to its body."""
+    """The public functions of a file: the type of the impl block that each is in, its name, and its lines up to its
+    body."""
     owner, lines = None, text.splitlines()
     for at, line in enumerate(lines):
         if line.startswith("impl"):
@@ -61,7 +64,9 @@ def blocks(text):
         found = CALL.match(line)
         if found:
             end = at
-            while not re.match(rf"{found[1]}\{{\}}?$|{found[1]}.*[^ ].* \{{\}}?$", lines[end]) or CLAUSE.match(lines[end]):
+            while (
+                not re.match(rf"{found[1]}\{{\}}?$|{found[1]}.*[^ ].* \{{\}}?$", lines[end]) or CLAUSE.match(lines[end])
+            ):
                 end += 1
             yield owner, found[2], lines[at : end + 1]
 
@@ -140,17 +145,20 @@ def rests_on(crate, file, name):
     body = own.get(name, "")
     words = set(re.findall(r"[\w'-]+(?:\.[\w'-]+)?", body))
     words |= {it.partition(".")[0] for it in words}
-    return body, [(crate, file, it) for it in words if it in own and it != name] + [used[it] for it in words if it in used]
+    return (
+        body, [(crate, file, it) for it in words if it in own and it != name] + [used[it] for it in words if it in used]
+    )
 
 
 def allows_no_memory(call):
     """Whether what a contract says of a refusal, with all the definitions that it rests on, has the name NoMemory."""
     said = "\n".join(it for it in call.clauses if speaks_of_refusal(it))
-    # (a contract that says nothing of refusals allows each; where another fault comes exactly somewhere, elsewhere it is memory's; and what
-    # one named fault implies excludes no other)
+    # (a contract that says nothing of refusals allows each; where another fault comes exactly somewhere, elsewhere it
+    # is memory's; and what one named fault implies excludes no other)
     if not said or re.search(r"NoMemory|OutOfMemory|↔|≡ Err [\w.]+ →", said):
         return True
-    # (a check answers as a step of the machine, and the law a_run_short_of_memory says that no such step is refused for lack of memory)
+    # (a check answers as a step of the machine, and the law a_run_short_of_memory says that no such step is refused for
+    # lack of memory)
     if re.search(r"result ≡ checked \(", said):
         return False
     waiting, seen = [it[1:] for it in imports(call.file.read_text()) if names(it[0], said)], set()
@@ -184,7 +192,8 @@ def takes_memory(call):
 
 
 def read_orders():
-    """What is written by hand: for each crate and call, or step, the names of its refusals; and for each crate the calls without memory."""
+    """What is written by hand: for each crate and call, or step, the names of its refusals; and for each crate the
+    calls without memory."""
     orders = {}
     for line in ORDERS.read_text().splitlines():
         if line.strip() and not line.startswith("#"):
@@ -201,16 +210,23 @@ def order_of(call, orders, wrong):
             wrong.append(f"{call.crate} {call.name}: no order for {call.fault}")
             return ["NoMemory"]
         return [call.fault]
-    known = {"CopyFault": fault_names("Errno") + ["NoMemory"], "IoctlFault": fault_names("Errno") + ["NoMemory"]}.get(call.fault, fault_names(call.fault))
+    known = {"CopyFault": fault_names("Errno") + ["NoMemory"], "IoctlFault": fault_names("Errno") + ["NoMemory"]}.get(
+        call.fault, fault_names(call.fault)
+    )
     wrong += [f"{call.crate} {call.name}: {name} is no name of {call.fault}" for name in order if name not in known]
     if ("NoMemory" in order) != takes_memory(call):
-        wrong.append(f"{call.crate} {call.name}: its contract {'allows' if takes_memory(call) else 'excludes'} NoMemory")
+        wrong.append(
+            f"{call.crate} {call.name}: its contract {'allows' if takes_memory(call) else 'excludes'} NoMemory"
+        )
     return order
 
 
 def clause_names(call):
     found = [re.match(CLAUSE, it)[2] for it in call.clauses if speaks_of_refusal(it)]
-    return ", ".join(f"`{it.strip()}`" if it else "the one clause" if len(call.clauses) == 1 else "the clause without a name" for it in found)
+    return ", ".join(
+        f"`{it.strip()}`" if it else "the one clause" if len(call.clauses) == 1 else "the clause without a name"
+        for it in found
+    )
 
 
 def steps(orders, wrong):
@@ -222,18 +238,26 @@ def steps(orders, wrong):
         if crate == "step":
             wrong += [f"step {name}: no such step" for name in call.split() if name not in named]
             wrong += [f"step {call}: {name} is no Refusal" for name in order if name not in variants()["Refusal"]]
-            yield f"| {', '.join(f'`{it}`' for it in call.split())} | {', '.join(order)} | {'yes' if 'NoMemory' in order else 'no'} |"
+            yield (
+                f"| {', '.join(f'`{it}`' for it in call.split())} | {', '.join(order)} | "
+                f"{'yes' if 'NoMemory' in order else 'no'} |"
+            )
     told = [name for crate, call in orders if crate == "step" for name in call.split()]
     wrong += [f"step {name}: no row" for name in named if told.count(name) != 1]
 
 
 def look_for_strangers(orders, found, wrong):
-    """What is written by hand of calls that are not there, and of calls without memory whose contracts allow NoMemory."""
+    """What is written by hand of calls that are not there, and of calls without memory whose contracts allow
+    NoMemory."""
     known = {(it.crate, it.name): it for it in found}
     for (crate, call), order in orders.items():
         if crate == "without memory":
             wrong += [f"{call} {it}: no such call" for it in order if (call, it) not in known]
-            wrong += [f"{call} {it}: it may take memory" for it in order if (call, it) in known and takes_memory(known[call, it])]
+            wrong += [
+                f"{call} {it}: it may take memory"
+                for it in order
+                if (call, it) in known and takes_memory(known[call, it])
+            ]
         elif crate != "step" and not ((crate, call) in known and known[crate, call].fault):
             wrong.append(f"{crate} {call}: no such call")
 
@@ -269,7 +293,10 @@ def text():
 
 
 def write():
-    page.write("REFUSALS.md", "# Refusals of each call\n\n`./dev pages` writes this page. docs/REFUSALS.md explains it.\n\n" + text())
+    page.write(
+        "REFUSALS.md",
+        "# Refusals of each call\n\n`./dev pages` writes this page. docs/REFUSALS.md explains it.\n\n" + text(),
+    )
 
 
 def main():

@@ -9,7 +9,8 @@ python3 bench/check/release.py --sources     whether it is of these sources, and
 python3 bench/check/release.py --check       the same, and whether the proved builds are the programs of the release, byte by
                                        byte; so with the library, if dist/ has one that was built here
 
-release/ has the programs and the library, packed, the checksums of their sources (./postmig sources) and those of all files.
+release/ has the programs and the library, packed, the checksums of their sources (./postmig sources) and those of all
+files.
 """
 
 import argparse
@@ -61,7 +62,11 @@ def is_built(crate):
     checksum, _ = sources(crate)
     built = built_file(crate)
     noted = built.with_name("proved")
-    return built.is_file() and noted.is_file() and noted.read_text().split() == [checksum, hashlib.sha256(built.read_bytes()).hexdigest()]
+    return (
+        built.is_file()
+        and noted.is_file()
+        and noted.read_text().split() == [checksum, hashlib.sha256(built.read_bytes()).hexdigest()]
+    )
 
 
 def is_of_these_sources(crate):
@@ -90,7 +95,8 @@ def packed(text):
 
 
 def library_parts():
-    """The files of the library: those that were built in dist/, or those of the release if they are of these sources; else it is built."""
+    """The files of the library: those that were built in dist/, or those of the release if they are of these sources;
+    else it is built."""
     is_built = sources("postmig_c")[1]
     if not is_built and LIBRARY.is_file() and is_of_these_sources("postmig_c"):
         with tarfile.open(LIBRARY) as tar:
@@ -151,7 +157,9 @@ def check():
     files = look_at_sources()
     for name, crate in PROGRAMS.items():
         if not is_built(crate):
-            sys.exit(f"release: there is no proved build of {name} to compare it with: rt ci or ./postmig prove makes one")
+            sys.exit(
+                f"release: there is no proved build of {name} to compare it with: rt ci or ./postmig prove makes one"
+            )
         if built_file(crate).read_bytes() != files[name]:
             sys.exit(f"release: the proved build of {name} has other bytes: {RENEW}")
         print(f"release: {name}, {len(files[name]):,} bytes, as built")
@@ -162,7 +170,9 @@ def check():
 
 
 def main():
-    parser = argparse.ArgumentParser(description="Makes the release of both programs and of the library, or compares it.")
+    parser = argparse.ArgumentParser(
+        description="Makes the release of both programs and of the library, or compares it."
+    )
     asked = parser.add_mutually_exclusive_group(required=True)
     for word in ("--write", "--sources", "--check"):
         asked.add_argument(word, action="store_true")

@@ -3,8 +3,8 @@
 
 python3 bench/check/sentences.py [CRATE ..]
 
-Of each file of specs/ it reads every definition at the left margin, of each file of src/ of the product every `pub fn`. A comment above a
-definition's attribute counts. With crates it reads these alone. The status is 1 where one has none.
+Of each file of specs/ it reads every definition at the left margin, of each file of src/ of the product every `pub fn`.
+A comment above a definition's attribute counts. With crates it reads these alone. The status is 1 where one has none.
 """
 
 import re
@@ -41,7 +41,9 @@ def main():
         if crate in product:
             looked_at += [(file, FUNCTION, "///", "#[") for file in sorted((CRATES / crate / "src").rglob("*.rt"))]
         for file, *how in looked_at:
-            faults += [f"{file.relative_to(CRATES)}:{number}: {name}" for number, name in unsaid(file.read_text(), *how)]
+            faults += [
+                f"{file.relative_to(CRATES)}:{number}: {name}" for number, name in unsaid(file.read_text(), *how)
+            ]
     page.end(faults, "sentences")
 
 

@@ -1,5 +1,5 @@
 #!/usr/bin/env python3
-"""Compares the JSON of `postmig show` with its lines: Python's json reads it, and the same lines are made of it.
+"""Compares the JSON of `postmig show` with its lines: Python's json reads it, and the same lines follow from it.
 
 python3 bench/check/shown.py [--program PATH]
 

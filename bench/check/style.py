@@ -3,8 +3,9 @@
 
 python3 bench/check/style.py
 
-C is as .clang-format says, where the machine has clang-format of the version whose form it is; that it has none is said. In Python each name that a file imports, and each that
-a function binds by itself, is used there; one that begins with _ need not be. The status is 1 otherwise. (measures.py counts wide lines.)
+C is as .clang-format says, where the machine has clang-format of the version whose form it is; that it has none is
+said. In Python each name that a file imports, and each that a function binds by itself, is used there; one that begins
+with _ need not be. The status is 1 otherwise. (measures.py counts wide lines.)
 """
 
 import ast
@@ -49,10 +50,13 @@ def imported(tree):
 
 
 def bound(function):
-    """The names that a function's own statements bind, one at a time: not those of a tuple, which has to be taken apart."""
+    """The names that a function's own statements bind, one at a time: not those of a tuple, which must be taken
+    apart."""
     outer = {name for it in ast.walk(function) if isinstance(it, (ast.Global, ast.Nonlocal)) for name in it.names}
     for node in ast.walk(function):
-        targets = node.targets if isinstance(node, ast.Assign) else [node.target] if isinstance(node, ast.AnnAssign) else []
+        targets = (
+            node.targets if isinstance(node, ast.Assign) else [node.target] if isinstance(node, ast.AnnAssign) else []
+        )
         yield from ((node.lineno, it.id) for it in targets if isinstance(it, ast.Name) and it.id not in outer)
 
 
@@ -65,7 +69,11 @@ def faults_of(name):
             yield f"{name}:{number}: imports {it} and does not use it"
     for function in (it for it in ast.walk(tree) if isinstance(it, (ast.FunctionDef, ast.AsyncFunctionDef))):
         own = used_in(function)
-        yield from (f"{name}:{number}: binds {it} and does not use it" for number, it in bound(function) if it not in own and not it.startswith("_"))
+        yield from (
+            f"{name}:{number}: binds {it} and does not use it"
+            for number, it in bound(function)
+            if it not in own and not it.startswith("_")
+        )
 
 
 def c_faults(names):
@@ -75,14 +83,20 @@ def c_faults(names):
     if not tool or VERSION not in subprocess.run([tool, "--version"], capture_output=True, text=True).stdout:
         print(f"style: no clang-format{VERSION} here, so the form of C is not checked")
         return []
-    wrong = [it for it in names if subprocess.run([tool, "--dry-run", "-Werror", it], cwd=page.TOP, capture_output=True).returncode]
+    wrong = [
+        it
+        for it in names
+        if subprocess.run([tool, "--dry-run", "-Werror", it], cwd=page.TOP, capture_output=True).returncode
+    ]
     return [f"{it}: not as .clang-format says (clang-format -i)" for it in wrong]
 
 
 def main():
     page.option()
     names = tracked()
-    python, c = [it for it in names if is_python(it)], [it for it in names if pathlib.PurePath(it).suffix in (".c", ".h")]
+    python, c = (
+        [it for it in names if is_python(it)], [it for it in names if pathlib.PurePath(it).suffix in (".c", ".h")]
+    )
     faults = [fault for name in python for fault in faults_of(name)] + c_faults(c)
     page.end(faults, f"form of {len(python)} sources in Python and {len(c)} in C")
 

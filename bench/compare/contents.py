@@ -3,11 +3,11 @@
 
 python3 bench/compare/contents.py [SEEDS] [--first SEED] [--lines N] [--program PATH]
 
-For each seed from SEED on (1), SEEDS of them (20), and for each profile of `postmig explore`, three maps of bytes that keep 0 change the
-value of each store of a right form: a permutation, a random map, and the one that takes every byte to 0. By the laws of `mig_laws` the
-output may differ in the values of loads alone, which are changed by the same map, and a page may be a zero where the map takes another
-byte to 0. For such a map each delivery with a number of bytes delivers 4112 at least; for the others the script stays as it is. The status
-is 1 where a line differs otherwise.
+For each seed from SEED on (1), SEEDS of them (20), and for each profile of `postmig explore`, three maps of bytes that
+keep 0 change the value of each store of a right form: a permutation, a random map, and the one that takes every byte to
+0. By the laws of `mig_laws` the output may differ in the values of loads alone, which are changed by the same map, and
+a page may be a zero where the map takes another byte to 0. For such a map each delivery with a number of bytes delivers
+4112 at least; for the others the script stays as it is. The status is 1 where a line differs otherwise.
 """
 
 import argparse
@@ -73,11 +73,16 @@ def compare(name, table, kept, old, new, counts):
 
 def judge(program, seed, profile, count, counts):
     cpus = str((1, 2, 4, 16)[seed % 4])
-    text = written([program, "explore", "--seed", str(seed), "--lines", str(count), "--profile", profile, "--cpus", cpus])
+    text = written(
+        [program, "explore", "--seed", str(seed), "--lines", str(count), "--profile", profile, "--cpus", cpus]
+    )
     for name, table, kept in maps(random.Random(seed)):
         lines = [it if kept else whole(it) for it in text.decode().splitlines()]
         scripts = lines, [changed_line(table, it) for it in lines]
-        outputs = (written([program, "run", "--cpus", cpus], "".join(f"{it}\n" for it in script).encode()) for script in scripts)
+        outputs = (
+            written([program, "run", "--cpus", cpus], "".join(f"{it}\n" for it in script).encode())
+            for script in scripts
+        )
         compare(f"{profile} {seed} {name}", table, kept, *(it.decode().splitlines() for it in outputs), counts)
         counts["stores"] += sum(one != other for one, other in zip(*scripts))
         counts["pairs of runs"] += 1
@@ -94,7 +99,11 @@ def main():
     for seed in range(given.first, given.first + given.seeds):
         for profile in PROFILES:
             judge(given.program, seed, profile, given.lines, counts)
-    print(", ".join(f"{counts[it]} {it}" for it in ("pairs of runs", "lines", "stores", "values", "pages that became zeros")) + ", 0 differ otherwise")
+    print(
+        ", ".join(
+            f"{counts[it]} {it}" for it in ("pairs of runs", "lines", "stores", "values", "pages that became zeros")
+        ) + ", 0 differ otherwise"
+    )
 
 
 if __name__ == "__main__":

@@ -3,10 +3,10 @@
 
 python3 bench/compare/contracts.py [--definitions] BEFORE [AFTER]
 
-AFTER is the working tree where it is not given. The signature and the clauses of each public function are compared, with blanks as one
-blank, but those of crates of tests, under its crate and its type: a function that moves to another file of its crate does not
-differ. With --definitions those of specs/ are compared in the same way, without comments. The status is 0 whether or not something
-differs.
+AFTER is the working tree where it is not given. The signature and the clauses of each public function are compared,
+with blanks as one blank, but those of crates of tests, under its crate and its type: a function that moves to another
+file of its crate does not differ. With --definitions those of specs/ are compared in the same way, without comments.
+The status is 0 whether or not something differs.
 """
 
 import argparse
@@ -32,11 +32,15 @@ def texts(revision, pattern):
             if re.fullmatch(pattern, path) and file.is_file():
                 yield path, file.read_text()
         return
-    ran = subprocess.run(["git", "ls-tree", "-r", "--name-only", revision, "crates"], cwd=page.TOP, capture_output=True, text=True)
+    ran = subprocess.run(
+        ["git", "ls-tree", "-r", "--name-only", revision, "crates"], cwd=page.TOP, capture_output=True, text=True
+    )
     if ran.returncode:
         sys.exit(f"contracts: {ran.stderr.strip()}")
     for path in filter(lambda it: re.fullmatch(pattern, it), ran.stdout.splitlines()):
-        shown = subprocess.run(["git", "show", f"{revision}:{path}"], cwd=page.TOP, check=True, capture_output=True, text=True)
+        shown = subprocess.run(
+            ["git", "show", f"{revision}:{path}"], cwd=page.TOP, check=True, capture_output=True, text=True
+        )
         yield path, shown.stdout
 
 
@@ -56,7 +60,11 @@ def contracts(revision):
             if name:
                 found[name] += " " + line
                 is_signature = not re.search(r" (requires|ensures)\b", found[name])
-                if re.fullmatch(r"\s*\{\}?", line) or line.endswith(" {}") or is_signature and line.endswith((" {", ";")):
+                if (
+                    re.fullmatch(r"\s*\{\}?", line)
+                    or line.endswith(" {}")
+                    or is_signature and line.endswith((" {", ";"))
+                ):
                     name = None
     return {name: " ".join(text.split()) for name, text in found.items()}
 

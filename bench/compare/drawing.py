@@ -9,8 +9,9 @@ LAST_EPOCH = 2**32 - 1
 
 
 class Drawing:
-    """Draws frames of some pages for a destination. `wrong` is the share of them that have another epoch than they should, and of Packages
-    that do not fit; `light` that of copies which are drawn as zeros, so that a stream is short."""
+    """Draws frames of some pages for a destination. `wrong` is the share of them that have another epoch than they
+    should, and of Packages that do not fit; `light` that of copies which are drawn as zeros, so that a stream is
+    short."""
 
     def __init__(self, random, pages, cpus, wrong, light=0):
         self.random, self.pages, self.cpus, self.wrong, self.light = random, pages, cpus, wrong, light

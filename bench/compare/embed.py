@@ -75,7 +75,10 @@ def in_c(work, loads):
     print("C:", run(nodes).decode().strip())
     (work / "nodes.test").write_bytes(run(nodes, "script"))
     if PROGRAM.exists():
-        print("the traces of its nodes, as one script:", run(PROGRAM, "test", "--strict", work / "nodes.test").decode().strip())
+        print(
+            "the traces of its nodes, as one script:",
+            run(PROGRAM, "test", "--strict", work / "nodes.test").decode().strip(),
+        )
     else:
         print("the traces of its nodes: left out, the program is not proved and built")
     asks = built(work / "asks", "-g", "-fsanitize=address,undefined", TOP / "bench/embed/asks.c")
@@ -118,7 +121,12 @@ def inside_the_program(work, inside):
         broken, changed = work / "broken", work / "changed"
         broken.write_bytes(text[1:] + b"# a comment that stays\n" + transcript + bytes(300))
         # each reply has another digit at its end, but for those that have none
-        changed.write_bytes(b"".join(line[:-2] + (b"1" if line[-2:-1] == b"0" else b"0") + b"\n" if line[-2:-1].isdigit() else line for line in transcript.splitlines(keepends=True)))
+        changed.write_bytes(
+            b"".join(
+                line[:-2] + (b"1" if line[-2:-1] == b"0" else b"0") + b"\n" if line[-2:-1].isdigit() else line
+                for line in transcript.splitlines(keepends=True)
+            )
+        )
         for name, option in (("lint", []), ("entries", ["--transcript"])):
             compared((PROGRAM, "lint", *option), (inside, name, broken), broken)
         for name, option in (("explain", []), ("all", ["--all"])):
@@ -128,7 +136,8 @@ def inside_the_program(work, inside):
 
 
 def compared(words, others, given=None):
-    """Ends the script where a command of the program, whose input may be a file, does not write what the other command writes."""
+    """Ends the script where a command of the program, whose input may be a file, does not write what the other command
+    writes."""
     wanted = program.run([str(word) for word in words], given.read_bytes() if given else b"").stdout
     if not wanted or run(*others) != wanted:
         sys.exit(f"embed: {' '.join(map(str, others))}: not what the program writes")
@@ -143,21 +152,51 @@ def in_python(loads):
         differs = compare.compare(script.read_bytes(), iter(answers.open("rb")))
         whole = postmig.run(script.read_bytes())
         is_flat, verdict = postmig.check(postmig.run(script.read_bytes(), transcript=True))
-        if compare_fails(differs, script, answers) or whole != answers.read_bytes() or not is_flat or not verdict.startswith(b"ok "):
+        if (
+            compare_fails(differs, script, answers)
+            or whole != answers.read_bytes()
+            or not is_flat
+            or not verdict.startswith(b"ok ")
+        ):
             sys.exit(f"embed: Python: {script.stem} differs")
     text = stream()
     with postmig.Frames() as frames:
-        got = [(numbers.tag, numbers.addr, numbers.count, part) for at in range(0, len(text), 777) for numbers, part in frames.feed(text[at : at + 777])]
-    if b"".join(part for *_, part in got) != text or [(tag, addr, count) for tag, addr, count, _ in got][1:3] != [(3, 0x10000, 1), (8, 0x20000, 2)]:
+        got = [
+            (numbers.tag, numbers.addr, numbers.count, part)
+            for at in range(0, len(text), 777)
+            for numbers, part in frames.feed(text[at : at + 777])
+        ]
+    if (
+        b"".join(part for *_, part in got) != text
+        or [(tag, addr, count) for tag, addr, count, _ in got][1:3] != [(3, 0x10000, 1), (8, 0x20000, 2)]
+    ):
         sys.exit("embed: Python: the frames differ")
     with postmig.World() as world, world.copy() as copy:
         copy.line(b"start")
         asked = [world.would(b"switch"), copy.would(b"switch")]
         copy.line(b"break")
         asked += [copy.show(postmig.WIRES).splitlines()[1], copy.show(postmig.PAGES, 0, 4096).splitlines()[1:]]
-    asked += [postmig.reason(b"start"), postmig.reason(b"strat"), postmig.reason(b"start", transcript=True)[0], postmig.lint(b"start\nround 1\n")]
-    asked += [postmig.explain(b"0 load 0x0 8 => value 0x0\n"), postmig.explain(b"0 load 0x0 8 => done\n", every=True)[0]]
-    wanted = ["Phase", None, b"channel lost, epoch 1", [b"pages source 0 dest 0"], None, NEAR, 1, EXTRA, (False, UNMAPPED), False]
+    asked += [
+        postmig.reason(b"start"),
+        postmig.reason(b"strat"),
+        postmig.reason(b"start", transcript=True)[0],
+        postmig.lint(b"start\nround 1\n"),
+    ]
+    asked += [
+        postmig.explain(b"0 load 0x0 8 => value 0x0\n"), postmig.explain(b"0 load 0x0 8 => done\n", every=True)[0]
+    ]
+    wanted = [
+        "Phase",
+        None,
+        b"channel lost, epoch 1",
+        [b"pages source 0 dest 0"],
+        None,
+        NEAR,
+        1,
+        EXTRA,
+        (False, UNMAPPED),
+        False,
+    ]
     if asked != wanted:
         sys.exit(f"embed: Python: asked: {asked}")
     with postmig.World() as world:
@@ -165,7 +204,10 @@ def in_python(loads):
         begun = time.perf_counter()
         for _ in range(loads // 10):
             world.line(b"cpu 0 load 0x10000 8")
-        print(f"Python: {len(SCRIPTS)} scripts and a stream agree; {loads // 10} loads: {time.perf_counter() - begun:.3f} s")
+        print(
+            f"Python: {len(SCRIPTS)} scripts and a stream agree; {loads // 10} loads: "
+            f"{time.perf_counter() - begun:.3f} s"
+        )
 
 
 def compare_fails(differs, script, answers):
@@ -182,11 +224,17 @@ def in_rust(work):
         print("Rust: left out, there is no rustc")
         return
     decode = work / "decode"
-    run("rustc", "--edition", "2024", "-O", "-o", decode, EMBED / "decode.rs", "-L", DIST, "-l", "static=postmig", cwd=work)
+    run(
+        "rustc", "--edition", "2024", "-O", "-o", decode, EMBED / "decode.rs", "-L", DIST, "-l", "static=postmig",
+        cwd=work,
+    )
     said = run(decode, input=stream()).decode().splitlines()
     if len(said) != 9 or said[1] != "tag 0x03 epoch 1 address 0x10000 count 1 of 16 bytes" or said[-1] != "whole":
         sys.exit("embed: Rust: " + "\n".join(said))
-    if run(decode, input=stream()[:-1]).decode().splitlines()[-1] != "truncated" or run(decode, input=bytes(12)) != b"fault 8 behind byte 0\n":
+    if (
+        run(decode, input=stream()[:-1]).decode().splitlines()[-1] != "truncated"
+        or run(decode, input=bytes(12)) != b"fault 8 behind byte 0\n"
+    ):
         sys.exit("embed: Rust: a stream that ends inside a frame, or has a fault")
     print("Rust: decode.rs reads a stream, one that is cut off, and one with a fault")
 
@@ -199,11 +247,15 @@ def programs(work):
     run("cc", "-I", DIST, "-o", shared, EMBED / "drive.c", "-L", DIST, "-lpostmig", f"-Wl,-rpath,{DIST}")
     if run(shared) != run(drive):
         sys.exit("embed: drive.c differs over the shared object")
-    strict = ["-Wall", "-Wextra", "-Wconversion", "-Werror", "-g", "-fsanitize=address,undefined", "-fno-sanitize-recover=all"]
+    strict = [
+        "-Wall", "-Wextra", "-Wconversion", "-Werror", "-g", "-fsanitize=address,undefined", "-fno-sanitize-recover=all"
+    ]
     two = built(work / "two", *strict, EMBED / "two_nodes.c")
     for _ in range(10):
         said = sorted(run(two).decode().splitlines())
-        if said != ["destination: 16 pages as the source stored them", "source: 8 pages owed, 8 discarded", "source: released"]:
+        if said != [
+            "destination: 16 pages as the source stored them", "source: 8 pages owed, 8 discarded", "source: released"
+        ]:
             sys.exit(f"embed: two_nodes.c: {said}")
     said = run(sys.executable, EMBED / "compare.py", *SCRIPTS[0]).decode()
     if said != f"all {len(SCRIPTS[0][1].read_text().splitlines())} answers agree\n":

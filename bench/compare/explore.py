@@ -1,19 +1,20 @@
 #!/usr/bin/env python3
 """Explores with many seeds, judges each script by the other commands, and counts what happened in them.
 
-python3 bench/compare/explore.py [SEEDS] [--first SEED] [--lines N] [--cpus C] [--pages M] [--finish] [--sweep] [--least N] [--program PATH]
-        [--scripts FILE] [--write]
+python3 bench/compare/explore.py [SEEDS] [--first SEED] [--lines N] [--cpus C] [--pages M] [--finish] [--sweep]
+        [--least N] [--program PATH] [--scripts FILE] [--write]
 
-For each seed from SEED on (1), SEEDS of them (20), and for each profile: `postmig explore` writes a script with its answers. The same
-without answers has the same lines; `postmig run` prints the answers; `postmig check` accepts the transcript of the run; no store has zeros
-as its lowest byte. Its status is 1 where one of these does not hold. Then it prints tables of what happened. Run it once ./postmig prove
-has built the program. With --finish each script ends with the lines that finish it and a sweep, and its migration has to be complete; with
---sweep it ends with a sweep, loads of all pages after the lines that it has without. With --scripts it judges scripts with answers that are
-in a file, one after the other, and runs no `postmig explore`. With --write the tables go to dist/EXPLORED.md, or with --finish a part of the
-first to docs/EXPLORE.md.
+For each seed from SEED on (1), SEEDS of them (20), and for each profile: `postmig explore` writes a script with its
+answers. The same without answers has the same lines; `postmig run` prints the answers; `postmig check` accepts the
+transcript of the run; no store has zeros as its lowest byte. Its status is 1 where one of these does not hold. Then it
+prints tables of what happened. Run it once ./postmig prove has built the program. With --finish each script ends with
+the lines that finish it and a sweep, and its migration must be complete; with --sweep it ends with a sweep, loads of
+all pages after the lines that it has without. With --scripts it judges scripts with answers that are in a file, one
+after the other, and runs no `postmig explore`. With --write the tables go to dist/EXPLORED.md.
 
-A script shows a destination that installs zeros for every page if one of its loads returns other bytes than 0 that were installed: there
-it would return 0 for them. With --least the status is also 1 where fewer than N of 100 scripts of a profile with post-copy show it.
+A script shows a destination that installs zeros for every page if one of its loads returns other bytes than 0 that were
+installed: there it would return 0 for them. With --least the status is also 1 where fewer than N of 100 scripts of a
+profile with post-copy show it.
 """
 
 import argparse
@@ -29,7 +30,6 @@ import guest
 import page
 from program import PROFILES, PROGRAM, written
 
-FILE = page.TOP / "docs" / "EXPLORE.md"
 POSTCOPY = PROFILES[2:]
 PHASES = ("precopy", "switching", "postcopy")
 # The phase that a step begins, and how many frames it sends on the wire to the destination.
@@ -51,7 +51,8 @@ def argument(comment, name):
 
 
 def judge(program, text):
-    """Raises ValueError unless the other commands agree with a script and its answers, and a script that was finished is complete."""
+    """Raises ValueError unless the other commands agree with a script and its answers, and a script that was finished
+    is complete."""
     comment, lines, answers = split(text)
     script = "".join(f"{line}\n" for line in [comment, *lines]).encode()
     cpus = ["--cpus", argument(comment, "cpus")]
@@ -67,8 +68,9 @@ def judge(program, text):
 
 
 def explored(program, seed, profile, options):
-    """A script with its answers. Its lines are those that are written without answers, and begin with those that are written without a
-    sweep. No value is stored whose lowest byte is 0, so that a load of any width shows it; what does not fit into its byte is stored nowhere."""
+    """A script with its answers. Its lines are those that are written without answers, and begin with those that are
+    written without a sweep. No value is stored whose lowest byte is 0, so that a load of any width shows it; what does
+    not fit into its byte is stored nowhere."""
     words = [program, "explore", "--seed", str(seed), "--profile", profile, *options]
     text = written([*words, "--answers"]).decode()
     lines = split(text)[1]
@@ -114,8 +116,9 @@ class Course:
         self.send(self.forward, SENDS.get(step, 0))
         self.send(self.urgent, step == "upush")
         known = {
-            "break": self.break_link, "resume": self.resume, "push": self.push, "upush": self.push, "deliver": self.deliver,
-            "udeliver": self.deliver_urgent, "back": self.back, "serve": self.serve, "install": self.install, "dact": self.resolve,
+            "break": self.break_link, "resume": self.resume, "push": self.push, "upush": self.push,
+            "deliver": self.deliver, "udeliver": self.deliver_urgent, "back": self.back, "serve": self.serve,
+            "install": self.install, "dact": self.resolve,
         }
         if step in known:
             known[step](answer)
@@ -193,7 +196,9 @@ def counted(text):
 
 
 def add(total, course):
-    for mine, its in ((total.events, course.events), (total.effects, course.effects), (total.refusals, course.refusals)):
+    for mine, its in (
+        (total.events, course.events), (total.effects, course.effects), (total.refusals, course.refusals)
+    ):
         mine.update(its)
 
 
@@ -207,11 +212,14 @@ def rows(head, body):
 BETWEEN = "lines from the package to the completion"
 # What a script shows where one of its loads has bytes with these marks.
 SHOWN = "scripts that show a destination which installs zeros"
-SHOWS = {guest.INSTALLED: SHOWN, guest.INSTALLED | guest.MOVED: "scripts that show one which loses the bytes of moved pages"}
+SHOWS = {
+    guest.INSTALLED: SHOWN, guest.INSTALLED | guest.MOVED: "scripts that show one which loses the bytes of moved pages"
+}
 DATA = (guest.LOADS, guest.NOT_ZERO, *guest.MARKED.values(), *SHOWS.values())
 EVENTS = (
-    "scripts", "lines", "made", BETWEEN, "migrations that completed", *(f"breaks in {phase}" for phase in PHASES), "breaks while resuming", "resumptions",
-    "deliveries of a part", "faults at owed pages", "urgent frames that overtook", "copies installed where their page had moved",
+    "scripts", "lines", "made", BETWEEN, "migrations that completed", *(f"breaks in {phase}" for phase in PHASES),
+    "breaks while resuming", "resumptions", "deliveries of a part", "faults at owed pages",
+    "urgent frames that overtook", "copies installed where their page had moved",
     "copies dropped: their page was unmapped or cleared", "requests of pages that were pushed meanwhile", *DATA,
 )
 
@@ -267,7 +275,12 @@ def main():
     for name in ("lines", "cpus", "pages"):
         asked.add_argument(f"--{name}", type=int)
     given = asked.parse_args()
-    options = [word for name in ("lines", "cpus", "pages") if getattr(given, name) for word in (f"--{name}", str(getattr(given, name)))]
+    options = [
+        word
+        for name in ("lines", "cpus", "pages")
+        if getattr(given, name)
+        for word in (f"--{name}", str(getattr(given, name)))
+    ]
     options += ["--finish"] * given.finish + ["--sweep"] * given.sweep
 
     def one(case):
@@ -275,7 +288,11 @@ def main():
         judge(given.program, text)
         return argument(text, "profile"), counted(text)
 
-    cases = texts_of(given.scripts) if given.scripts else [(seed, profile) for profile in PROFILES for seed in range(given.first, given.first + given.seeds)]
+    cases = (
+        texts_of(given.scripts)
+        if given.scripts
+        else [(seed, profile) for profile in PROFILES for seed in range(given.first, given.first + given.seeds)]
+    )
     totals = collections.defaultdict(Course)
     wrong = 0
     with concurrent.futures.ThreadPoolExecutor(os.cpu_count()) as pool:
@@ -292,10 +309,7 @@ def main():
         wrong += 1
         print(f"{name}: too few scripts show a destination that installs zeros", file=sys.stderr)
     if given.write and wrong == 0:
-        if given.finish:
-            page.put("finished", "\n".join(events(totals, ("scripts", *DATA))), FILE)
-        else:
-            page.write("EXPLORED.md", text)
+        page.write("EXPLORED.md", text)
     return 1 if wrong else 0
 
 

@@ -3,11 +3,12 @@
 
 python3 bench/compare/finish.py [--program PATH] [--every N] [--cases FOLDER] [--pages M] [--runs R] [SCRIPT ..]
 
-For each SCRIPT (all of examples/ if none is given; with --cases all scripts of a folder, too) and for the script cut behind each of its
-lines, or behind each Nth: `postmig finish` writes lines, and `postmig run` of the cut script with these lines behind it refuses none of
-them and ends with a complete migration. A script with a wrong line is cut before it. With --pages it times, instead, `postmig finish` of a
-script that stores to M pages, and `postmig run` of the same script with the lines behind it: the least of R runs each. Its status is 1 where
-something else comes out. Run it once ./postmig prove has built the program.
+For each SCRIPT (all of examples/ if none is given; with --cases all scripts of a folder, too) and for the script cut
+after each of its lines, or after each Nth: `postmig finish` writes lines, and `postmig run` of the cut script with
+these lines after it refuses none of them and ends with a complete migration. A script with a wrong line is cut before
+it. With --pages it times, instead, `postmig finish` of a script that stores to M pages, and `postmig run` of the same
+script with the lines after it: the least of R runs each. Its status is 1 where one of these does not hold. Run it once
+./postmig prove has built the program.
 """
 
 import argparse
@@ -36,7 +37,7 @@ def readable(program, script, cpus):
 
 
 def prefixes(script, every):
-    """The script cut behind some of its lines, and all of it."""
+    """The script cut after some of its lines, and all of it."""
     ends = [match.end() for match in re.finditer(rb"\n", script)]
     for end in [0, *ends[every - 1 :: every]]:
         yield script[:end]
@@ -85,7 +86,10 @@ def time_pages(program, pages, runs):
         count = lines.count(b"\n")
         words = ([program, "finish", script], [program, "run", whole])
         finishing, running = clock.least(lambda: [clock.played(it)[0] for it in words], runs)
-    print(f"{pages} pages, {count} lines: finish {finishing:.2f} s, run of the same lines {running:.2f} s, {finishing / running:.2f} times")
+    print(
+        f"{pages} pages, {count} lines: finish {finishing:.2f} s, run of the same lines {running:.2f} s, "
+        f"{finishing / running:.2f} times"
+    )
 
 
 def main():

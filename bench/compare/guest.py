@@ -1,14 +1,16 @@
-"""The bytes of a guest, followed through the lines of a script and their answers, and what has happened to each of them."""
+"""The bytes of a guest, followed through the lines of a script and their answers, and what has happened to each of
+them."""
 
 import collections
 import re
 
 PAGE = 4096
-# What has happened to a byte since it was stored: its page was moved while the guest ran at the destination; its page was installed there;
-# an older copy of that page had come before the guest did, and was discarded.
+# What has happened to a byte since it was stored: its page was moved while the guest ran at the destination; its page
+# was installed there; an older copy of that page had come before the guest did, and was discarded.
 MOVED, INSTALLED, RESENT = 1, 2, 4
 
-# What is counted: loads that are answered where the guest runs at the destination, and those whose bytes other than 0 have these marks.
+# What is counted: loads that are answered where the guest runs at the destination, and those whose bytes other than 0
+# have these marks.
 LOADS, NOT_ZERO = "loads at the destination", "loads there of bytes that are not all 0"
 MARKED = {
     INSTALLED: "loads there of bytes that were installed",
@@ -26,7 +28,8 @@ def pages_of(start, length):
 
 
 def replies(lines, answers):
-    """The reply of each map call that waits for its messages, by the index of its line. One whose call does not end has none."""
+    """The reply of each map call that waits for its messages, by the index of its line. One whose call does not end has
+    none."""
     calls, found = {}, {}
     for index, (line, answer) in enumerate(zip(lines, answers)):
         waits = re.fullmatch(r"cpu (\d+) in call \d+", answer)
@@ -47,7 +50,7 @@ class Guest:
         self.is_moved, self.is_known, self.counts = False, True, collections.Counter()
 
     def take(self, line, answer, reply):
-        """Follows one line. `reply` is that of a map call, which may have come later."""
+        """Follows one line. `reply` is that of a map call, which may have arrived later."""
         words = line.split()
         if answer.startswith("refused ") or words[0] not in ("cpu", "retry"):
             self.follow(answer.split())

@@ -3,12 +3,12 @@
 
 python3 bench/compare/histories.py [COUNT] [--real COUNT] [--seed SEED] [--program PATH] [--keep FOLDER]
 
-It makes COUNT histories (200) of up to four threads, three words and eleven operations, some of them with a reply that is drawn, and searches
-all orders of each that agree with its intervals. Then it does so with small ones of real threads (20), which
-history/process writes, most of them with a fault in the memory. The status is 1 where the program says ok and there
-is no order, or wrong and there is one; where it writes an order that postmig check does not accept; or where it is
-undecided although there is an order. What was undecided otherwise is counted, by whether a call overlaps an access.
---keep has each history that differs.
+It makes COUNT histories (200) of up to four threads, three words and eleven operations, some of them with a reply that
+is drawn, and searches all orders of each that agree with its intervals. Then it does so with small ones of real threads
+(20), which history/process writes, most of them with a fault in the memory. The status is 1 where the program says ok
+and there is no order, or wrong and there is one; where it writes an order that postmig check does not accept; or where
+it is undecided although there is an order. What was undecided otherwise is counted, by whether a call overlaps an
+access. --keep has each history that differs.
 """
 
 import argparse
@@ -110,7 +110,8 @@ def after(memory, word, addr, value):
 
 
 def has_order(operations):
-    """Whether there is an order that agrees with the intervals, in which each reply is that of one memory: all of them are tried."""
+    """Whether there is an order that agrees with the intervals, in which each reply is that of one memory: all of them
+    are tried."""
     operations = sorted(operations, key=lambda it: it[1])
     whole = (1 << len(operations)) - 1
 

@@ -3,8 +3,8 @@
 
 python3 bench/compare/limits.py [--write]
 
-Run it once ./postmig prove has built the program. It needs 1 GiB of the disk, a gigabyte of memory and some minutes. Its status is 1 where
-a case does not end as it has to. With --write the tables go to dist/LIMITS.md.
+Run it once ./postmig prove has built the program. It needs 1 GiB of the disk, a gigabyte of memory and some minutes.
+Its status is 1 where a case does not end as it must. With --write the tables go to dist/LIMITS.md.
 """
 
 import collections
@@ -82,8 +82,8 @@ def peak_of(process):
 
 
 def run(words, given, taken=None, space=None):
-    """Runs the program. `given` and `taken` are descriptors, or none: without `taken` what is written is read, and -1 closes either. With
-    `space` it has this many bytes of address space."""
+    """Runs the program. `given` and `taken` are descriptors, or none: without `taken` what is written is read, and -1
+    closes either. With `space` it has this many bytes of address space."""
 
     def begin():
         if space:
@@ -185,10 +185,34 @@ CHECKED = b"0 mmap 4096 rw => at 0x10000\n1 load 0x10000 8 => value 0x0\n"
 def long_inputs(folder):
     """Inputs of 1 GiB."""
     for word, unit, lines in (("run", LOAD, LINES), ("check", ENTRY, 1)):
-        yield Case("1 GiB of lines, in a file", word, lambda unit=unit: in_file(folder, pieces(b"", unit, LINES)), None, (0, lines, ""))
-        yield Case("1 GiB of lines, from a pipe", word, lambda unit=unit: in_pipe(pieces(b"", unit, LINES)), None, (0, lines, ""))
-        yield Case("1 GiB without a line feed, in a file", word, lambda: in_file(folder, pieces(b"", b"#" * MIB, GIB // MIB)), None, (1, 0, LINE))
-        yield Case("1 GiB without a line feed, from a pipe", word, lambda: in_pipe(pieces(b"", b"#" * MIB, GIB // MIB)), None, (1, 0, LINE))
+        yield Case(
+            "1 GiB of lines, in a file",
+            word,
+            lambda unit=unit: in_file(folder, pieces(b"", unit, LINES)),
+            None,
+            (0, lines, ""),
+        )
+        yield Case(
+            "1 GiB of lines, from a pipe",
+            word,
+            lambda unit=unit: in_pipe(pieces(b"", unit, LINES)),
+            None,
+            (0, lines, ""),
+        )
+        yield Case(
+            "1 GiB without a line feed, in a file",
+            word,
+            lambda: in_file(folder, pieces(b"", b"#" * MIB, GIB // MIB)),
+            None,
+            (1, 0, LINE),
+        )
+        yield Case(
+            "1 GiB without a line feed, from a pipe",
+            word,
+            lambda: in_pipe(pieces(b"", b"#" * MIB, GIB // MIB)),
+            None,
+            (1, 0, LINE),
+        )
 
 
 def inputs(folder):
@@ -215,14 +239,18 @@ def outputs(folder):
 def streams(folder):
     """The same of frames, where the program reads them."""
     long_stream = lambda: pieces(ADVISE, ONE_PAGE, FRAMES)
-    yield Case("1 GiB of frames, in a file", "frames", lambda: in_file(folder, long_stream()), None, (0, 1 + FRAMES, ""))
+    yield Case(
+        "1 GiB of frames, in a file", "frames", lambda: in_file(folder, long_stream()), None, (0, 1 + FRAMES, "")
+    )
     yield Case("1 GiB of frames, from a pipe", "frames", lambda: in_pipe(long_stream()), None, (0, 1 + FRAMES, ""))
     yield Case("/dev/zero", "frames", lambda: opened("/dev/zero"), None, (1, 0, "stream fault BadTag"))
     yield Case("/dev/null", "frames", lambda: opened("/dev/null"), None, (0, 0, ""))
     yield Case("a directory", "frames", lambda: opened("/"), None, (2, 0, READ))
     yield Case("closed", "frames", lambda: -1, None, (2, 0, READ))
     given = lambda: in_pipe([ADVISE])
-    yield Case("output: a full device, /dev/full", "frames", given, lambda: opened("/dev/full", os.O_WRONLY), (2, 0, WRITE))
+    yield Case(
+        "output: a full device, /dev/full", "frames", given, lambda: opened("/dev/full", os.O_WRONLY), (2, 0, WRITE)
+    )
     yield Case("output: closed", "frames", given, lambda: -1, (2, 0, WRITE))
     yield Case("output: a pipe that nobody reads", "frames", given, closed_pipe, (2, 0, WRITE))
 
@@ -235,16 +263,24 @@ def tried(case):
         if it not in (None, -1):
             os.close(it)
     status, lines, said = case.wanted
-    is_right = ended.status == status and ended.said == said and ended.written.lines == lines and ended.written.is_whole()
+    is_right = (
+        ended.status == status and ended.said == said and ended.written.lines == lines and ended.written.is_whole()
+    )
     # (a short run ends before its memory is looked at)
     cost = f"{ended.seconds:.1f} | {ended.peak:.0f}" if ended.seconds > 1 else " | "
-    row = f"| {case.name} | `{case.word}` | {ended.status} | {f'`{ended.said}`' if ended.said else ''} | {ended.written.lines:,} | {cost} |"
+    row = (
+        f"| {case.name} | `{case.word}` | {ended.status} | {f'`{ended.said}`' if ended.said else ''} | "
+        f"{ended.written.lines:,} | {cost} |"
+    )
     print(row if is_right else f"{row} wanted: {case.wanted}", flush=True)
     return row, is_right
 
 
 def table(cases, rows, failed):
-    rows += ["| Case | Program | Status | Standard error | Lines written | Seconds | Peak, MiB |", "|---|---|---|---|---|---|---|"]
+    rows += [
+        "| Case | Program | Status | Standard error | Lines written | Seconds | Peak, MiB |",
+        "|---|---|---|---|---|---|---|",
+    ]
     for case in cases:
         row, is_right = tried(case)
         rows.append(row)
@@ -272,8 +308,13 @@ def little_memory(folder, rows, failed):
     null = os.open("/dev/null", os.O_RDONLY)
     begins = least(lambda kib: run(["--version"], null, space=kib * 1024).status == 0, 0, 4 * MIB)
     whole = least(lambda kib: run(["run"], in_pipe([script]), space=kib * 1024).status == 0, begins, 4 * MIB)
-    rows += [f"The least address space with which `--version` runs is {begins:,} KiB, and the whole migration takes {whole:,} KiB.\n"]
-    rows += ["| Address space, KiB | Status | Standard error | Lines written | How far it came |", "|---|---|---|---|---|"]
+    rows += [
+        f"The least address space with which `--version` runs is {begins:,} KiB, and the whole migration takes "
+        f"{whole:,} KiB.\n"
+    ]
+    rows += [
+        "| Address space, KiB | Status | Standard error | Lines written | How far it came |", "|---|---|---|---|---|"
+    ]
     between = 0
     # (the addresses of a run are drawn by lot, so that one takes a little more than another)
     most = whole + whole // 10
@@ -284,7 +325,10 @@ def little_memory(folder, rows, failed):
         far = "complete" if is_complete else "between the start and completion" if has_begun else "before the start"
         between += ended.status == 4 and has_begun and not is_complete
         is_right = ended.written.is_whole() and (ended.status, ended.said) in ((0, ""), (4, "no memory"))
-        row = f"| {size:,} | {ended.status} | {f'`{ended.said}`' if ended.said else ''} | {ended.written.lines:,} | {far} |"
+        row = (
+            f"| {size:,} | {ended.status} | {f'`{ended.said}`' if ended.said else ''} | {ended.written.lines:,} | "
+            f"{far} |"
+        )
         rows.append(row)
         print(row, "" if is_right else "wanted: status 0 or 4, and whole lines", flush=True)
         failed += [] if is_right else [f"{size} KiB"]
@@ -298,7 +342,9 @@ def main():
     has_frames = b"frames" in subprocess.run([PROGRAM, "--help"], capture_output=True, check=True).stdout
     rows, failed = [f"Tried on {page.machine()}.\n"], []
     with tempfile.TemporaryDirectory() as folder:
-        for heading, cases in (("Long inputs", long_inputs), ("Inputs", inputs), ("Outputs", outputs), ("Streams of frames", streams)):
+        for heading, cases in (
+            ("Long inputs", long_inputs), ("Inputs", inputs), ("Outputs", outputs), ("Streams of frames", streams)
+        ):
             if cases is streams and not has_frames:
                 continue
             rows.append(f"## {heading}\n")

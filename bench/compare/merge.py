@@ -1,13 +1,13 @@
 #!/usr/bin/env python3
-"""Cuts runs of a world into the traces of their two nodes, merges these in random orders, and has `postmig test` judge each; then plants
-faults into traces, and looks who names them.
+"""Cuts runs of a world into the traces of their two nodes, merges these in random orders, and has `postmig test` judge
+each; then plants faults into traces, and looks who names them.
 
 python3 bench/compare/merge.py [--quick] [--scripts N] [--orders N] [--program PATH]
 
-The runs are those of examples/ and N random scripts (200) of all profiles of `postmig explore`, each in ten orders. --quick: 24 scripts,
-three orders. At each Resume but the first the trace of the destination is also cut, as that of another one that came then in the place of
-the first: before the switch it is merged, after it refused. The status is 1 where an answer differs, where no order is found, or where a
-planted fault is not named.
+The runs are those of examples/ and N random scripts (200) of all profiles of `postmig explore`, each in ten orders.
+--quick: 24 scripts, three orders. At each Resume but the first the trace of the destination is also cut, as that of
+another one that then replaced the first: before the switch it is merged, after it refused. The status is 1
+where an answer differs, where no order is found, or where a planted fault is not named.
 """
 
 import argparse
@@ -32,7 +32,9 @@ import merging  # noqa: E402
 import planted_traces  # noqa: E402
 from planted_traces import DEST, SOURCE  # noqa: E402
 
-AT_SOURCE = {"start", "round", "send", "sendrun", "sread", "sact", "switch", "push", "upush", "serve", "end", "back", "resume"}
+AT_SOURCE = {
+    "start", "round", "send", "sendrun", "sread", "sact", "switch", "push", "upush", "serve", "end", "back", "resume"
+}
 # A line of a run that is in no trace: it changes no node, or is the world's.
 NO_STEP = re.compile(r"refused \w+$|moved |broken$|progress ")
 
@@ -79,7 +81,17 @@ def tests(program, count):
         yield script.stem, 2, written([program, "run", "--answers", script]).decode()
     for seed in range(1, count + 1):
         profile, cpus = PROFILES[1 + seed % (len(PROFILES) - 1)], (1, 2, 4, 16)[seed % 4]
-        words = ["--seed", seed, "--lines", (200, 400)[seed % 2], "--profile", profile, "--cpus", cpus, *(["--finish"] if seed % 3 else [])]
+        words = [
+            "--seed",
+            seed,
+            "--lines",
+            (200, 400)[seed % 2],
+            "--profile",
+            profile,
+            "--cpus",
+            cpus,
+            *(["--finish"] if seed % 3 else []),
+        ]
         yield f"{profile} {seed}", cpus, written([str(program), "explore", *map(str, words), "--answers"]).decode()
 
 
@@ -128,8 +140,8 @@ def epoch_of_switch(source):
 
 
 def of_others(traces):
-    """For each Resume that a destination has taken but the first, its trace from the notice before it on, as one has it that came then; and
-    whether the source had not switched."""
+    """For each Resume that a destination has taken but the first, its trace from the notice before it on, as one has it
+    that came then; and whether the source had not switched."""
     head, *lines = traces[DEST].splitlines()
     last, notice, count = epoch_of_switch(traces[SOURCE]), 0, 0
     for at, line in enumerate(lines):
@@ -152,7 +164,9 @@ def replace_all(program, kept, orders, counts):
                         wrong += [f"{name}, of another destination, order {seed}: {none}"] if is_before else []
                         counts["refused after the switch"] += not is_before
                         continue
-                    wrong += [] if is_before else [f"{name}: another destination takes the place of one after the switch"]
+                    wrong += (
+                        [] if is_before else [f"{name}: another destination takes the place of one after the switch"]
+                    )
                     files.append(pathlib.Path(folder) / f"{len(files)}.test")
                     files[-1].write_text(script.text())
                     counts["orders with another destination"] += 1
@@ -198,7 +212,10 @@ def plant_all(program, kept, runs):
         for kind, plants in kinds:
             print(f"{kind:47} runs  merge   test  nobody")
             for name, side, plant in plants:
-                found = [(who, by_whom(program, make, folder)) for who, make in itertools.islice(planted(kept, plant, side, draw), runs)]
+                found = [
+                    (who, by_whom(program, make, folder))
+                    for who, make in itertools.islice(planted(kept, plant, side, draw), runs)
+                ]
                 counts = collections.Counter(by for _, by in found)
                 print(f"    {name:43} {len(found):4} {counts['merge']:6} {counts['test']:6} {counts[None]:7}"
                       + "".join(f" ({who})" for who, by in found if by is None), flush=True)
@@ -243,11 +260,27 @@ sact => woke 0x11000
 
 
 def retries():
-    """What is wrong with what is said of a trace in which two processors wait for a page, and of those that lack some of its lines."""
+    """What is wrong with what is said of a trace in which two processors wait for a page, and of those that lack some
+    of its lines."""
     wrong = []
-    for missing, text in (((), None), ((8, 9), "trace:6: sread => read remove 0x11000 0x12000, cpu 2 done: processor 1 is woken, and not retried before line 9"),
-                          ((6, 7, 11), "trace:6: sread => read remove 0x11000 0x12000, cpu 2 done: processor 0 is woken, and not retried before line 9"),
-                          ((12,), "trace:11: sact => zeroed 0x11000: processor 1 is woken, and never retried")):
+    for missing, text in (
+        ((), None),
+        (
+            (8, 9),
+            (
+                "trace:6: sread => read remove 0x11000 0x12000, cpu 2 done: processor 1 is woken, and not retried "
+                "before line 9"
+            ),
+        ),
+        (
+            (6, 7, 11),
+            (
+                "trace:6: sread => read remove 0x11000 0x12000, cpu 2 done: processor 0 is woken, and not retried "
+                "before line 9"
+            ),
+        ),
+        ((12,), "trace:11: sact => zeroed 0x11000: processor 1 is woken, and never retried"),
+    ):
         lines = [line for number, line in enumerate(WOKEN) if number not in missing]
         found = merging.never_retried(merging.Trace("trace", merging.SOURCE, "\n".join(lines)))
         if found != text:
@@ -271,10 +304,16 @@ def command_line(traces):
         short = write("short.trace", traces[SOURCE].replace("\nsend ", "\n# ", 1))
         script = merged(traces).text().partition("\n")[2].partition("\n")[2]
         for words, status, text in (
-                ([source, dest], 0, script), ([source, dest, "--orders"], 0, "\nswitch\n"), ([source, dest, "--seed", "1", "--judge"], 0, "a run of the machine"),
-                ([changed, dest, "--judge"], 3, "changed.trace:"), ([short, dest], 1, "dest.trace:"), ([dest, source], 2, "not a step of a source"),
-                ([source, f"{folder}/none"], 2, "No such file"), ([source, write("words.trace", "# cpus 2\nhello\n")], 2, "words.trace:2: not a line"),
-                ([source, write("no.trace", "")], 1, "source.trace:")):
+            ([source, dest], 0, script),
+            ([source, dest, "--orders"], 0, "\nswitch\n"),
+            ([source, dest, "--seed", "1", "--judge"], 0, "a run of the machine"),
+            ([changed, dest, "--judge"], 3, "changed.trace:"),
+            ([short, dest], 1, "dest.trace:"),
+            ([dest, source], 2, "not a step of a source"),
+            ([source, f"{folder}/none"], 2, "No such file"),
+            ([source, write("words.trace", "# cpus 2\nhello\n")], 2, "words.trace:2: not a line"),
+            ([source, write("no.trace", "")], 1, "source.trace:"),
+        ):
             done = subprocess.run([TOP / "live/merge", *words], capture_output=True, text=True)
             if done.returncode != status or text not in done.stdout + done.stderr:
                 wrong.append(f"merge {' '.join(words)}: status {done.returncode}: {done.stdout[:200]}{done.stderr}")

@@ -1,11 +1,11 @@
 #!/usr/bin/env python3
-"""Plays scripts through a source and a destination of the library, each in a process of its own with wires of bytes between them, and compares
-each step with `postmig run`; then the traces of both are merged and judged.
+"""Plays scripts through a source and a destination of the library, each in a process of its own with wires of bytes
+between them, and compares each step with `postmig run`; then the traces of both are merged and judged.
 
 python3 bench/compare/nodes.py [--scripts N] [--program PATH]
 
-The scripts are those of examples/ and N random ones (200) of `postmig explore`; their stores store 0, since a node has no contents. The
-status is 1 where a step differs. It needs the library: ./postmig library.
+The scripts are those of examples/ and N random ones (200) of `postmig explore`; their stores store 0, since a node has
+no contents. The status is 1 where a step differs. It needs the library: ./postmig library.
 """
 
 import argparse
@@ -33,14 +33,38 @@ WORLDS = ("break", "progress")
 def build(folder):
     """The player, with both sanitizers."""
     made = pathlib.Path(folder) / "play"
-    written(["cc", "-std=gnu11", "-g", "-O1", "-Wall", "-Wextra", "-Wconversion", "-Werror", "-fsanitize=address,undefined", "-fno-sanitize-recover=all",
-             "-I", TOP / "crates/postmig_c/include", "-o", made, TOP / "bench/embed/play.c", TOP / "dist/libpostmig.a"])
+    written(
+        [
+            "cc",
+            "-std=gnu11",
+            "-g",
+            "-O1",
+            "-Wall",
+            "-Wextra",
+            "-Wconversion",
+            "-Werror",
+            "-fsanitize=address,undefined",
+            "-fno-sanitize-recover=all",
+            "-I",
+            TOP / "crates/postmig_c/include",
+            "-o",
+            made,
+            TOP / "bench/embed/play.c",
+            TOP / "dist/libpostmig.a",
+        ]
+    )
     return made
 
 
 class Node:
     def __init__(self, program, words, files):
-        self.process = subprocess.Popen([program, *words, *map(str, files)], stdin=subprocess.PIPE, stdout=subprocess.PIPE, text=True, pass_fds=files)
+        self.process = subprocess.Popen(
+            [program, *words, *map(str, files)],
+            stdin=subprocess.PIPE,
+            stdout=subprocess.PIPE,
+            text=True,
+            pass_fds=files,
+        )
 
     def say(self, line):
         self.process.stdin.write(f"{line}\n")
@@ -80,8 +104,15 @@ class Pair:
 
 def is_of_the_world(words, answer):
     """A line that no node is asked for: the world's own, and what only a world refuses."""
-    return (words[0] in WORLDS or answer.startswith("moved ") or answer == "refused Broken"
-            or (words[0] in ("notice", "resume", "deliver", "back", "udeliver") and answer in ("refused Phase", "refused NotBroken")))
+    return (
+        words[0] in WORLDS
+        or answer.startswith("moved ")
+        or answer == "refused Broken"
+        or (
+            words[0] in ("notice", "resume", "deliver", "back", "udeliver")
+            and answer in ("refused Phase", "refused NotBroken")
+        )
+    )
 
 
 def play(program, test, cpus, counts):
@@ -102,7 +133,11 @@ def play(program, test, cpus, counts):
             said = (nodes.source if is_source else nodes.dest).say(order)
             counts["steps"] += 1
             found = said.partition(" => ")[2] or said
-            if found != (answer if answer != "refused NothingThere" or words[0] not in ("deliver", "back", "udeliver") else "status 1000"):
+            if found != (
+                answer
+                if answer != "refused NothingThere" or words[0] not in ("deliver", "back", "udeliver")
+                else "status 1000"
+            ):
                 return f"{line}: the node says {said}", None
             counts["refused"] += said == found
             if said != found:
@@ -126,7 +161,9 @@ def zeroed(test):
 
 
 def main():
-    given = argparse.ArgumentParser(description="Plays scripts through two nodes, and compares each step with postmig run.")
+    given = argparse.ArgumentParser(
+        description="Plays scripts through two nodes, and compares each step with postmig run."
+    )
     given.add_argument("--scripts", type=int, default=200, metavar="N", help="random scripts (200)")
     given.add_argument("--program", type=pathlib.Path, default=TOP / "postmig", metavar="PATH")
     arguments = given.parse_args()

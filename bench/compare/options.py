@@ -3,8 +3,9 @@
 
 python3 bench/compare/options.py [CALLS] [--seed N] --program PATH
 
-Each call must end within two minutes, with a status that its page has, and without a trace of the stack; one with a status other than 0 must
-say something. The status is 1 where one does not. The values are such that a call which is right has little to do.
+Each call must end within two minutes, with a status that its page has, and without a trace of the stack; one with a
+status other than 0 must say something. The status is 1 where one does not. The values are such that a call which is
+right has little to do.
 """
 
 import argparse
@@ -31,9 +32,15 @@ VALUES = {
     "--host": ("nosuch", "true", "cat", "'", "", "/"),
     "--impl": ("nosuch", "true", "'", ""),
 }
-FLAGS = ("--trace", "--any-kernel", "--minimise", "--show", "--eager", "--late", "--quick", "--frob", "--serial", "--each", "--json")
+FLAGS = (
+    "--trace", "--any-kernel", "--minimise", "--show", "--eager", "--late", "--quick", "--frob", "--serial", "--each",
+    "--json",
+)
 # Those of the program.
-OWN = ("--all", "--strict", "--tap", "--explain", "--transcript", "--answers", "--echo", "--steps", "--json", "--frob", "--finish", "--cut", "--")
+OWN = (
+    "--all", "--strict", "--tap", "--explain", "--transcript", "--answers", "--echo", "--steps", "--json", "--frob",
+    "--finish", "--cut", "--",
+)
 FILES = ("nofile", ".", "/dev/null", "examples/fault.script", "examples/fault.out", "{bytes}", "{empty}")
 COMMANDS = ("true", "false", "nosuch", "'", "", "cat", "python3 conformance/handlers/right.py")
 # The script, what comes first, and the options with a value that it may be given.
@@ -50,17 +57,25 @@ SCRIPTS = (
     ("python3 -B examples/embed/compare.py", FILES, ()),
 )
 WORDS = ("-", "all", "pages", "bash", *FILES)
-COMMANDS_OF_IT = ("run", "finish", "check", "lint", "audit", "frames", "draw", "show", "explore", "test", "threads", "completion")
+COMMANDS_OF_IT = (
+    "run", "finish", "check", "lint", "audit", "frames", "draw", "show", "explore", "test", "threads", "completion"
+)
 
 
 def calls(count, seed, program, room):
-    """Command lines. Where a script would do much, it gets a profile with one seed and few lines after what was drawn."""
+    """Command lines. Where a script would do much, it gets a profile with one seed and few lines after what was
+    drawn."""
     chance = random.Random(seed)
     for _ in range(count):
         if chance.random() < 0.3:
             words = [program, chance.choice(COMMANDS_OF_IT), *chance.choices(OWN, k=chance.choice((0, 0, 1, 2)))]
             words += [it.format(**room) for it in chance.choices(WORDS, k=chance.choice((0, 1, 1, 2)))]
-            yield words + [it for name in ("--cpus", "--seeds") if chance.random() < 0.2 for it in (name, chance.choice(VALUES[name]))]
+            yield words + [
+                it
+                for name in ("--cpus", "--seeds")
+                if chance.random() < 0.2
+                for it in (name, chance.choice(VALUES[name]))
+            ]
             continue
         script, firsts, options = chance.choice(SCRIPTS)
         words = shlex.split(script)

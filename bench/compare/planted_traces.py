@@ -1,6 +1,7 @@
 """Faults for merge.py: each is planted into the traces of a run, or into a merged script, and must be named.
 
-A plant is a function of what it changes and of a `random.Random`, which returns the changed one, or None where it has no place there.
+A plant is a function of what it changes and of a `random.Random`, which returns the changed one, or None where it has
+no place there.
 """
 
 import re
@@ -40,7 +41,11 @@ def left_out(pattern, later=""):
 def swapped(pattern, next_pattern):
     """Two lines that follow each other, and are not the same."""
     def plant(lines, draw):
-        found = [at for at in places(lines[:-1], pattern) if re.search(next_pattern, lines[at + 1]) and lines[at] != lines[at + 1]]
+        found = [
+            at
+            for at in places(lines[:-1], pattern)
+            if re.search(next_pattern, lines[at + 1]) and lines[at] != lines[at + 1]
+        ]
         if not found:
             return None
         at = draw.choice(found)
@@ -80,8 +85,17 @@ def retried_early(lines, draw):
             asleep[words[1]] = int(words[3], 16) // 4096, at
         if words[0] in ("dact", "install") and words[2] not in ("advise",) and lines[at + 1].startswith("retry "):
             page, since = asleep.get(lines[at + 1].split()[1], (None, 0))
-            acts = [it for it in lines[since:at] if re.match("dact => (zeroed|woke|forgot)|install|dread => read (remove|unmap|remap)|retry", it)]
-            if words[3][:2] == "0x" and int(words[3], 16) // 4096 == page and words[2] in ("zeroed", "installed") and not acts:
+            acts = [
+                it
+                for it in lines[since:at]
+                if re.match("dact => (zeroed|woke|forgot)|install|dread => read (remove|unmap|remap)|retry", it)
+            ]
+            if (
+                words[3][:2] == "0x"
+                and int(words[3], 16) // 4096 == page
+                and words[2] in ("zeroed", "installed")
+                and not acts
+            ):
                 return [*lines[:at], lines[at + 1], line, *lines[at + 2 :]]
     return None
 
@@ -134,14 +148,26 @@ TRACES = (
     ("a frame is taken twice", DEST, twice(r"^deliver => took (zero|page|run|discard|package|end)")),
     ("an urgent frame is taken twice", DEST, twice("^udeliver")),
     ("a frame is left out by its sender", SOURCE, unsent),
-    ("a frame is left out by its taker", DEST, left_out("^deliver => took (discard|package)", "^(deliver|cpu|retry|install)")),
+    (
+        "a frame is left out by its taker",
+        DEST,
+        left_out("^deliver => took (discard|package)", "^(deliver|cpu|retry|install)"),
+    ),
     ("a trace is cut off", SOURCE, cut_off),
-    ("two frames are taken in the other order", DEST, swapped("^deliver => took (zero|page|run)", "^deliver => took (zero|page|run)")),
+    (
+        "two frames are taken in the other order",
+        DEST,
+        swapped("^deliver => took (zero|page|run)", "^deliver => took (zero|page|run)"),
+    ),
     ("a copy is installed before it has come", DEST, installed_early),
     ("a fault is acted on before it is read", SOURCE, acted_early),
     ("a fault is retried before it is acted on", DEST, retried_early),
     ("a notice is left out", DEST, left_out("^notice dest", "=> took resume")),
-    ("a notice comes too early", DEST, lambda lines, draw: early(lines, "^notice dest", "^u?deliver => took (?!resume)")),
+    (
+        "a notice comes too early",
+        DEST,
+        lambda lines, draw: early(lines, "^notice dest", "^u?deliver => took (?!resume)"),
+    ),
     ("a resume is left out", SOURCE, left_out("^resume", "=> took recv")),
     ("a Resume is not taken", DEST, left_out("=> took resume", "^deliver")),
     ("the epoch of a Resume is wrong", DEST, changed("^# epoch ([0-9]+)", more)),
@@ -164,7 +190,11 @@ def early(lines, pattern, over):
 ANSWERS = (
     ("another page is sent", SOURCE, changed(r"^(?:send|push|upush)\b.* => sent \w+ (0x[0-9a-f]+)", more)),
     ("a round has a page more", SOURCE, changed("^round => round [0-9]+ todo ([0-9]+)", more)),
-    ("a fault of another kind is read", SOURCE, changed("^sread => read fault 0x[0-9a-f]+ (write-protect)", to("missing"))),
+    (
+        "a fault of another kind is read",
+        SOURCE,
+        changed("^sread => read fault 0x[0-9a-f]+ (write-protect)", to("missing")),
+    ),
     ("a page is woken and not unprotected", SOURCE, changed("^sact => (unprotected)", to("woke"))),
     ("a page more is owed", SOURCE, changed("^switch => switched discard [0-9]+ owed ([0-9]+)", more)),
     ("a page more is discarded", DEST, changed("^deliver => took discard ([0-9]+)", more)),
@@ -176,7 +206,11 @@ ANSWERS = (
     ("a copy is dropped that is owed", DEST, changed("^install => (installed 0x[0-9a-f]+ from)", to("dropped"))),
     ("a call waits for a message more", DEST, changed("^cpu .* => cpu [0-9]+ in call ([0-9]+)", more)),
     ("a load reads another value", DEST, changed("=> cpu [0-9]+ value (0x[0-9a-f]+)", more)),
-    ("a store sleeps that is made", SOURCE, changed("^cpu ([0-9]+ store .* => cpu [0-9]+ done)", lambda text: text.replace("done", "asleep"))),
+    (
+        "a store sleeps that is made",
+        SOURCE,
+        changed("^cpu ([0-9]+ store .* => cpu [0-9]+ done)", lambda text: text.replace("done", "asleep")),
+    ),
 )
 
 
@@ -201,7 +235,10 @@ SCRIPTS = (
     ("the other notice comes before its break", moved_before("^notice dest", "^break")),
     ("a resume comes before a notice", moved_before("^resume", "^notice")),
     ("a Resume is taken before it is sent", moved_before("^deliver => took resume", "^resume")),
-    ("a break comes before a frame that is taken", moved_before("^break", "^u?deliver => took (zero|page|run|discard|package)")),
+    (
+        "a break comes before a frame that is taken",
+        moved_before("^break", "^u?deliver => took (zero|page|run|discard|package)"),
+    ),
     ("a break is left out", left_out("^break")),
     ("there is a break more", twice("^break")),
 )
@@ -229,7 +266,11 @@ def mutated(lines, draw):
         elif kind == 4:
             lines[at] = f"{lines[at].partition(' => ')[0]} => {lines[other].partition(' => ')[2]}"
         else:
-            words[word : word + 1] = [draw.choice(("0x10000", "=>", "", "7", "resume", "-1", "9" * 5000, "\u0661", "\r"))] if kind == 5 else []
+            words[word : word + 1] = (
+                [draw.choice(("0x10000", "=>", "", "7", "resume", "-1", "9" * 5000, "\u0661", "\r"))]
+                if kind == 5
+                else []
+            )
             lines[at] = " ".join(words)
         lines = lines or [""]
     return lines

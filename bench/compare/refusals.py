@@ -1,16 +1,18 @@
 #!/usr/bin/env python3
-"""Has the allocator refuse each growth in turn, once in a run: of the program on each script of examples/, and of the tests.
+"""Has the allocator refuse each growth in turn, once in a run: of the program on each script of examples/, and of the
+tests.
 
 python3 bench/compare/refusals.py [CRATE ..]
 
-Run it once ./postmig prove has built the program, and `rt test` the tests of the crates: migration_tests and guest_tests where none is
-named. It needs a C compiler, for a library that stands between the program and malloc.
+Run it once ./postmig prove has built the program, and `rt test` the tests of the crates: migration_tests and
+guest_tests where none is named. It needs a C compiler, for a library between the program and malloc.
 
-- The program ends with status 4 and `no memory`, and has written whole lines, which are the first of the script's output: the step that
-  needed memory answered NoMemory. Where it ends with status 0 instead, with all of the output, the refusal was passed over: std's `collect`
-  asks for the room of all items at first, and where that is refused for the room of each as it comes. Those are counted.
-- A test makes the step that answered NoMemory once more, and wants the answer that its table has, also of all steps behind it. It passes
-  whichever growth is refused. Of a test with many growths those that are tried are spread evenly.
+- The program ends with status 4 and `no memory`, and has written whole lines, which are the first of the script's
+  output: the step that needed memory returned NoMemory. Where it ends with status 0 instead, with all of the output,
+  the refusal was passed over: std's `collect` asks for the room of all items at first, and where that is refused for
+  the room of each as it comes. Those are counted.
+- A test makes the step that returned NoMemory once more, and wants the answer that its table has, also of all steps
+  after it. It passes whichever growth is refused. Of a test with many growths those that are tried are spread evenly.
 """
 
 import concurrent.futures
@@ -38,10 +40,12 @@ class Refuser:
     def __init__(self, folder):
         self.folder = pathlib.Path(folder)
         self.library = self.folder / "refuse.so"
-        subprocess.run(["cc", "-O2", "-Wall", "-Wextra", "-Werror", "-shared", "-fPIC", "-o", self.library, SHIM], check=True)
+        subprocess.run(
+            ["cc", "-O2", "-Wall", "-Wextra", "-Werror", "-shared", "-fPIC", "-o", self.library, SHIM], check=True
+        )
 
     def run(self, number, words, given=b""):
-        """The run, and whether it came to its Nth growth."""
+        """The run, and whether it reached its Nth growth."""
         told = self.folder / f"{os.urandom(8).hex()}.told"
         environment = {**os.environ, "LD_PRELOAD": str(self.library), "REFUSED": str(number), "REFUSED_TOLD": str(told)}
         ended = subprocess.run(words, input=given, capture_output=True, env=environment, timeout=120)

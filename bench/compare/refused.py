@@ -1,19 +1,24 @@
 #!/usr/bin/env python3
-"""Has the allocator refuse each growth of some scenes in turn, once in a run, by the proved builds of the tests that play them.
+"""Has the allocator refuse each growth of some scenes in turn, once in a run, by the proved builds of the tests that
+play them.
 
 python3 bench/compare/refused.py
 
-`rt ci` leaves these builds, and so does `rt test`. It needs a C compiler, for the library of refusals.py that stands between the build and
-malloc. Each run must pass, which means: what answered NoMemory has changed nothing, the same call again has the answer of its table, so has
-each call behind it, and the transcript is checked. Besides, a run says how often a call answered NoMemory, or how much of a copy was put:
+`rt ci` leaves these builds, and so does `rt test`. It needs a C compiler, for the library of refusals.py, which is
+between the build and malloc. Each run must pass, which means: what returned NoMemory has changed nothing, the same call
+again has the answer of its table, so has each call after it, and the transcript is checked. Besides, a run says how
+often a call returned NoMemory, or how much of a copy was put:
 
-- `scenes_with_refusals` of migration_tests plays six scenes, from loads and stores to a channel that is lost with three pages in flight.
-  Whichever of their growths is refused, exactly one call must answer NoMemory. Only a step that is refused for another reason, which comes
-  first, answers that: two steps here grow something before they are refused (PASSED_OVER).
-- `rigs::refusals::each_scene` of thread_tests plays scenes of a rig in one thread: calls, a store that slept, and each worker. Whichever of
-  their growths is refused, each scene ends as it does with enough memory: a call that answered NoMemory has entered nothing, and is made
-  again; a command that slept waits as before, and is finished; a push that was refused is made at the worker's next turn.
-- `a_copy_that_wants_memory` of guest_tests copies two pages. All of the copy is put, or its first page alone, or nothing, each in some run.
+- `scenes_with_refusals` of migration_tests plays six scenes, from loads and stores to a channel that is lost with three
+  pages in flight. Whichever of their growths is refused, exactly one call must return NoMemory. Only a step that is
+  refused for another reason, which comes first, answers that: two steps here grow something before they are refused
+  (PASSED_OVER).
+- `rigs::refusals::each_scene` of thread_tests plays scenes of a rig in one thread: calls, a store that slept, and each
+  worker. Whichever of their growths is refused, each scene ends as it does with enough memory: a call that answered
+  NoMemory has entered nothing, and is made again; a command that slept waits as before, and is finished; a push that
+  was refused is made at the worker's next turn.
+- `a_copy_that_wants_memory` of guest_tests copies two pages. All of the copy is put, or its first page alone, or
+  nothing, each in some run.
 """
 
 import collections
@@ -30,8 +35,8 @@ from refusals import Refuser
 SCENES = ("migration_tests", "refusals::scenes_with_refusals")
 RIG = ("thread_tests", "rigs::refusals::each_scene")
 COPY = ("guest_tests", "objects::a_copy_that_wants_memory")
-# The growths of the scenes after which no call answers NoMemory: of the transcript, for a load of a processor that there is not, and of the
-# wire back, for an act while an event is unread.
+# The growths of the scenes after which no call returns NoMemory: of the transcript, for a load of a processor that
+# there is not, and of the wire back, for an act while an event is unread.
 PASSED_OVER = 2
 # No test here has nearly as many growths.
 MOST = 20000
@@ -56,7 +61,10 @@ def each_refused(refuser, crate, test):
         ended, reached = refuser.run(number, words)
         text = ended.stdout.decode(errors="replace")
         if ended.returncode or not reached:
-            sys.exit(f"refused: {crate} {test}, growth {number}: status {ended.returncode}\n{text}{ended.stderr.decode(errors='replace')}")
+            sys.exit(
+                f"refused: {crate} {test}, growth {number}: status "
+                f"{ended.returncode}\n{text}{ended.stderr.decode(errors='replace')}"
+            )
         return text
 
     with concurrent.futures.ThreadPoolExecutor(4) as pool:
@@ -64,7 +72,8 @@ def each_refused(refuser, crate, test):
 
 
 def look_at_scenes(texts):
-    """Prints how many growths each scene has; in each run but those that are passed over one call must have answered NoMemory."""
+    """Prints how many growths each scene has; in each run but those that are passed over one call must have answered
+    NoMemory."""
     growths, over = collections.Counter(), []
     for number, text in enumerate(texts, 1):
         scenes = {scene: int(count) for scene, count in re.findall(r"^(.*): no memory (\d+)$", text, re.M)}
@@ -77,7 +86,11 @@ def look_at_scenes(texts):
         sys.exit(f"refused: not each of six scenes had a growth refused: {dict(growths)}")
     if len(over) > PASSED_OVER:
         sys.exit(f"refused: no call answered NoMemory after growths {over} of the scenes")
-    print(f"refused: {len(texts)} growths of scenes, each once: " + ", ".join(f"{it} {count}" for it, count in growths.items()) + f", passed over {len(over)}")
+    print(
+        f"refused: {len(texts)} growths of scenes, each once: "
+        + ", ".join(f"{it} {count}" for it, count in growths.items())
+        + f", passed over {len(over)}"
+    )
 
 
 def look_at_copies(texts):
@@ -85,7 +98,11 @@ def look_at_copies(texts):
     puts = collections.Counter(re.findall(r"^copied (\d+)$", "".join(texts), re.M))
     if len(puts) != 3 or sum(puts.values()) != len(texts):
         sys.exit(f"refused: the bytes that copies of two pages have put, and in how many runs: {dict(puts)}")
-    print(f"refused: {len(texts)} growths around a copy of two pages: " + ", ".join(f"{it} bytes put {puts[it]} times" for it in sorted(puts, key=int)))
+    print(
+        f"refused: {len(texts)} growths around a copy of two pages: " + ", ".join(
+            f"{it} bytes put {puts[it]} times" for it in sorted(puts, key=int)
+        )
+    )
 
 
 def main():

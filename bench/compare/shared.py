@@ -1,5 +1,5 @@
-"""Puts bench/ on the path of imports. The scripts of this folder import it before a module of bench/; each folder has the same file.
-A read or a write that fails ends a script with one line."""
+"""Puts bench/ on the path of imports. The scripts of this folder import it before a module of bench/; each folder has
+the same file. A read or a write that fails ends a script with one line."""
 
 import pathlib
 import sys

@@ -1,13 +1,15 @@
 #!/usr/bin/env python3
-"""Compares `postmig frames` with the decoder and the destination of bench/model, on streams of frames that were changed and cut.
+"""Compares `postmig frames` with the decoder and the destination of bench/model, on streams of frames that were changed
+and cut.
 
 python3 bench/compare/streams.py PROGRAM [--streams N] [--seed N] [--jobs N] [--no-memory]
 
-A stream is a migration as a source would send it, of either version, with frames that are out of place, of another epoch or wrong in
-between; in most of them a byte is changed, or a header is broken, or the end is cut off. Half of them go on after a Package that is taken.
-For each the whole output, standard error and status have to be equal. Then the greatest memory of the program is measured on some of these
-streams: at most that of the pages that the destination keeps and of those that wait, and 16 MiB. On the largest streams that there are it
-may have twice the bytes of the longest frame besides: those that the decoder holds until the frame is whole, and what is read of them.
+A stream is a migration as a source would send it, of either version, with frames that are out of place, of another
+epoch or wrong in between; in most of them a byte is changed, or a header is broken, or the end is cut off. Half of them
+continue after a Package that is taken. For each the whole output, standard error and status must be equal. Then the
+greatest memory of the program is measured on some of these streams: at most that of the pages that the destination
+keeps and of those that wait, and 16 MiB. On the largest streams that there are it may have twice the bytes of the
+longest frame besides: those that the decoder holds until the frame is whole, and what is read of them.
 
 It prints a table of what was seen, and ends with status 1 where something differs or was seen too seldom.
 """
@@ -37,7 +39,7 @@ SLACK = 16 * 2**20
 FAULTS = ("BadTag", "BadLength", "BadField")
 TAKEN = ("advise", "page", "zero", "run", "discard", "package", "end")
 REFUSALS = ("OutOfPlace", "StaleEpoch", "BadFrame", "InstallFirst", "UrgentFirst")
-# How often each of these has to be seen.
+# How often each of these must be seen.
 OFTEN = 100
 BYTES = 10_000_000
 
@@ -50,7 +52,7 @@ def line_of(destination, frame):
 
 
 class Wanted:
-    """What the program has to answer to a stream."""
+    """What the program must answer to a stream."""
 
     def __init__(self, stream, cpus):
         frames, self.bytes, self.end = read(stream)
@@ -168,7 +170,9 @@ def peak(program, cpus, stream):
         child.stdin.flush()
         while waiting(child) is False:
             time.sleep(0.002)
-        kibibytes = next(int(line.split()[1]) for line in open(f"/proc/{child.pid}/status") if line.startswith("VmHWM:"))
+        kibibytes = next(
+            int(line.split()[1]) for line in open(f"/proc/{child.pid}/status") if line.startswith("VmHWM:")
+        )
         child.stdin.close()
         child.wait()
     return 1024 * kibibytes
@@ -186,7 +190,8 @@ def waiting(child):
 
 
 def large(version):
-    """The largest streams: many pages that are kept and that wait, and the largest Package of single pages, which are all owed."""
+    """The largest streams: many pages that are kept and that wait, and the largest Package of single pages, which are
+    all owed."""
     most = MOST[version]
 
     def text(name, fields):
@@ -247,14 +252,20 @@ def table(seen):
     """Prints what was seen, and answers whether it was often enough."""
     counts, right = seen.counts, not seen.wrong
     print("| | |\n|---|---|")
-    for name in ("streams", "version 1", "version 2", "past a Package", "bytes", "bytes of frames", "bytes of frames before a fault", "lines"):
+    for name in (
+        "streams", "version 1", "version 2", "past a Package", "bytes", "bytes of frames",
+        "bytes of frames before a fault", "lines",
+    ):
         print(f"| {name} | {counts[name]:,} |")
     right &= 2 * counts["past a Package"] >= counts["streams"] and counts["bytes of frames before a fault"] >= BYTES
     print(f"| streams that are frames and nothing more | {counts['end whole']:,} |")
     wanted = [f"end {fault}" for fault in FAULTS] + ["end truncated"]
     wanted += [f"took {name}" for name in TAKEN] + [f"refused {name}" for name in REFUSALS]
     for name in wanted:
-        print(f"| {name.replace('end truncated', 'truncated stream').replace('end ', 'stream fault ')} | {counts[name]:,} |")
+        print(
+            f"| {name.replace('end truncated', 'truncated stream').replace('end ', 'stream fault ')} | "
+            f"{counts[name]:,} |"
+        )
         right &= counts[name] >= OFTEN
     print(f"| streams that differ | {len(seen.wrong):,} |")
     for number in seen.wrong[:10]:

@@ -3,13 +3,15 @@
 
 python3 bench/compare/takes.py [PROGRAM] [--runs N] [--calls N] [--seed N] [--jobs N] [--write INPUT OUTPUT]
 
-PROGRAM is that of the crate node_tests, crates/node_tests/out/node_tests unless it is named. It makes `Destination::take`, `take_urgent`,
-`install` and `pause`, and `Source::back` with what the source does in between, in any order: no wire joins the two nodes, so every
-well-formed frame comes in every phase, of the node's epoch and of others, in either version. About half of the calls are drawn from those
-that the node takes in its phase, so that all phases are reached.
+PROGRAM is that of the crate node_tests, crates/node_tests/out/node_tests unless it is named. It makes
+`Destination::take`, `take_urgent`, `install` and `pause`, and `Source::back` with what the source does in between, in
+any order: no wire joins the two nodes, so every well-formed frame comes in every phase, of the node's epoch and of
+others, in either version. About half of the calls are drawn from those that the node takes in its phase, so that all
+phases are reached.
 
-It prints a table of what was seen, and ends with status 1 where an answer differs, where the program ends otherwise than with status 0,
-or where something was seen too seldom. With --write it writes the calls of two runs, one of each node, and the answers of the second nodes.
+It prints a table of what was seen, and ends with status 1 where an answer differs, where the program ends otherwise
+than with status 0, or where something was seen too seldom. With --write it writes the calls of two runs, one of each
+node, and the answers of the second nodes.
 """
 
 import argparse
@@ -34,7 +36,7 @@ PRESENT = frozenset(PAGES[::2])
 DEST_PHASES = ("Idle", "Advised", "Discarding", "Running", "Paused", "Ended")
 SOURCE_PHASES = ("Idle", "Precopy", "Stopped", "Paused", "Released")
 TAKE_FAULTS = ("OutOfPlace", "StaleEpoch", "BadFrame", "InstallFirst", "UrgentFirst")
-# How often each frame has to be handed over in each phase, and how often each refusal has to come.
+# How often each frame must be handed over in each phase, and how often each refusal must come.
 OFTEN = 50
 
 
@@ -55,7 +57,8 @@ class Destination(nodes.Destination):
 
     def state(self):
         return (
-            f"{self.phase.capitalize()} run {truth(self.has_run)} epoch {self.epoch} arrivals {len(self.arrivals)} owed {len(self.owed)}"
+            f"{self.phase.capitalize()} run {truth(self.has_run)} epoch {self.epoch} arrivals {len(self.arrivals)} "
+            f"owed {len(self.owed)}"
             f" installed {self.installed} dropped {self.dropped}"
         )
 
@@ -70,7 +73,11 @@ class Destination(nodes.Destination):
         numbers = [int(it, 16) for it in rest if it.startswith("0x")]
         if word == "dropped":
             return f"Dropped {{ origin: {numbers[0]} }}"
-        return f"Installed {{ addr: {numbers[0]}, origin: {numbers[1]} }}" if word == "installed" else " ".join([word, *rest])
+        return (
+            f"Installed {{ addr: {numbers[0]}, origin: {numbers[1]} }}"
+            if word == "installed"
+            else " ".join([word, *rest])
+        )
 
 
 class Source(nodes.Source):
@@ -79,7 +86,9 @@ class Source(nodes.Source):
     def __init__(self):
         super().__init__(dict.fromkeys(PRESENT))
         self.transmitted = 0
-        self.calls = {"s": self.begin, "w": self.switch, "e": self.end, "r": self.serve, "n": self.pause, "k": self.begin_epoch}
+        self.calls = {
+            "s": self.begin, "w": self.switch, "e": self.end, "r": self.serve, "n": self.pause, "k": self.begin_epoch
+        }
         self.calls |= {"v": self.push, "x": self.push_urgent}
 
     def transmit(self, name, fields, urgent=False):
@@ -87,7 +96,8 @@ class Source(nodes.Source):
 
     def state(self):
         return (
-            f"{self.phase.capitalize()} switched {truth(self.is_switched)} epoch {self.epoch} remaining {len(self.remaining)}"
+            f"{self.phase.capitalize()} switched {truth(self.is_switched)} epoch {self.epoch} remaining "
+            f"{len(self.remaining)}"
             f" asked {len(self.requests)} sent {self.sent}"
         )
 
@@ -113,13 +123,16 @@ class Run(Drawing):
         self.lines.append(line)
 
     def hand(self, letter, kind, node, name, page=None):
-        """Hands a frame to a node. What the answer says of frames that are sent is Done of a destination, and their number of a source."""
+        """Hands a frame to a node. What the answer says of frames that are sent is Done of a destination, and their
+        number of a source."""
         call, phase = node.take_urgent if kind == "urgent" else node.take, node.phase.capitalize()
         frame, text = self.frame(name, node.epoch, page)
         self.source.transmitted = 0
         answer = outcome(call, *frame)
         if not answer.startswith("refused"):
-            answer = "took" + {"end": ", and sends Done", "recv": f", and sends {self.source.transmitted}"}.get(name, "")
+            answer = "took" + {"end": ", and sends Done", "recv": f", and sends {self.source.transmitted}"}.get(
+                name, ""
+            )
         self.counts[f"{kind} {phase} {name}"] += 1
         self.counts[f"{kind} {answer}"] += 1
         self.add(letter + text, f"{answer}; {node.state()}")
@@ -152,7 +165,9 @@ class Run(Drawing):
 
     def likely(self):
         """A call that the source's phase may accept."""
-        return {"idle": "s", "precopy": "wwn", "stopped": "vvvvxxxxvxeeern", "paused": "k", "released": "swerk"}[self.source.phase]
+        return {"idle": "s", "precopy": "wwn", "stopped": "vvvvxxxxvxeeern", "paused": "k", "released": "swerk"}[
+            self.source.phase
+        ]
 
     def draw_source(self):
         node = self.source
@@ -161,7 +176,11 @@ class Run(Drawing):
             self.hand(b"b", "back", node, self.name(place, 0.4))
             return
         letter = self.random.choice(self.likely() if self.chance(0.8) else "swervxnk")
-        page = [self.random.choice(sorted(node.remaining) if node.remaining and self.chance(0.8) else PAGES)] if letter in "vx" else []
+        page = (
+            [self.random.choice(sorted(node.remaining) if node.remaining and self.chance(0.8) else PAGES)]
+            if letter in "vx"
+            else []
+        )
         answer = node.make(letter, *page)
         self.add(letter.encode() + bytes(it - LOW for it in page), f"{answer}; {node.state()}")
 
@@ -195,7 +214,14 @@ def frames_in_phases():
 
 def answers():
     """Each answer to a frame."""
-    yield from ("take took", "take took, and sends Done", "urgent took", "back took", "back took, and sends 0", "back took, and sends 2")
+    yield from (
+        "take took",
+        "take took, and sends Done",
+        "urgent took",
+        "back took",
+        "back took, and sends 0",
+        "back took, and sends 2",
+    )
     yield from (f"take refused {fault}" for fault in TAKE_FAULTS)
     yield from (f"{kind} refused {fault}" for kind in ("urgent", "back") for fault in ("OutOfPlace", "StaleEpoch"))
     yield "back refused BadOwed"

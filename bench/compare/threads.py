@@ -3,13 +3,14 @@
 
 python3 bench/compare/threads.py [--runs N] [--program PATH] [--refusals]
 
-It copies the crates, puts counters into the copy's rig (EDITS), and builds a program that calls `run_threads` N times (1,000), each with a
-cut and 1 to 16 processors in turn, and then once with 16 processors that make 2,001 calls each. Every report has to be that of its numbers,
-and each counter above 0. The build is one without proof, by `rt try`. With --program it also runs a built postmig (./postmig prove makes
-one) as often, with the same arguments.
+It copies the crates, puts counters into the copy's rig (EDITS), and builds a program that calls `run_threads` N times
+(1,000), each with a cut and 1 to 16 processors in turn, and then once with 16 processors that make 2,001 calls each.
+Every report must be that of its numbers, and each counter above 0. The build is one without proof, by `rt try`. With
+--program it also runs a built postmig (./postmig prove makes one) as often, with the same arguments.
 
-With --program and --refusals it refuses each growth of a run with two processors in turn instead, by the library of refusals.py: each such
-run has to end, with status 0 and the whole report, or with status 4 and nothing on standard output.
+With --program and --refusals it refuses each growth of a run with two processors in turn instead, by the library of
+refusals.py: each such run must end, with status 0 and the whole report, or with status 4 and nothing on standard
+output.
 """
 
 import argparse
@@ -51,12 +52,23 @@ EDITS = (
     ("rig/src/rig.rt", "            changed: Condvar::new(),", "\n            seen: Seen::new(),"),
     ("rig/src/rig.rt", "            changed: _,", "\n            seen: _,"),
     ("rig/src/rig.rt", "            changed: _changed,", "\n            seen: _seen,"),
-    ("rig/src/rig.rt", "        let outcome = step_in(&mut world, step);", "\n        self.seen.made(step, &outcome, world.phase());"),
-    ("rig/src/rig.rt", "        let outcome = serve_in(&mut world, epoch);", "\n        self.seen.made(Step::Serve, &outcome, world.phase());"),
+    (
+        "rig/src/rig.rt",
+        "        let outcome = step_in(&mut world, step);",
+        "\n        self.seen.made(step, &outcome, world.phase());",
+    ),
+    (
+        "rig/src/rig.rt",
+        "        let outcome = serve_in(&mut world, epoch);",
+        "\n        self.seen.made(Step::Serve, &outcome, world.phase());",
+    ),
     (
         "rig/src/rig/commands.rt",
-        "        ensures { IfOk result.1 (λ tried. IsToldOf cpu command tried) }\n    {\n        let mut world = self.world.lock(rt);\n"
-        "        for _ in rt.forever() {\n            world.headline();",
+        (
+            "        ensures { IfOk result.1 (λ tried. IsToldOf cpu command tried) }\n    "
+            "{\n        let mut world = self.world.lock(rt);\n"
+            "        for _ in rt.forever() {\n            world.headline();"
+        ),
         "\n            self.seen.begins(world.phase());",
     ),
     (
@@ -74,8 +86,14 @@ EDITS = (
     ("threads/src/run.rt", "            fault: Some(fault),", "\n            counts,"),
     (
         "threads/src/summary.rt",
-        "(length run.now.world.transcript) run.now.fault) }\n    ensures err { IfErr result (λ fault. fault ≡ OutOfMemory) }\n{",
-        '\n    for at in 0..9 {\n        let count = run.counts[at];\n        write!(text, "{count} ")?;\n    }\n    write!(text, "seen\\n")?;',
+        (
+            "(length run.now.world.transcript) run.now.fault) }\n    ensures err { IfErr result (λ fault. fault ≡ "
+            "OutOfMemory) }\n{"
+        ),
+        (
+            '\n    for at in 0..9 {\n        let count = run.counts[at];\n        write!(text, "{count} ")?;\n    }\n '
+            '   write!(text, "seen\\n")?;'
+        ),
     ),
 )
 
@@ -117,13 +135,13 @@ def tried(folder, crate, *words):
 
 
 def report_of(cpus, calls):
-    """What a run has to write."""
+    """What a run must write."""
     made = 1 + 2 * calls
     return [*(f"cpu {cpu} calls {made}" for cpu in range(cpus)), f"transcript {cpus * made}", "close ok"]
 
 
 def read_runs(lines, runs, calls, first=1):
-    """The counts of all runs, added, and the slowest one's milliseconds. Each report has to be as it should."""
+    """The counts of all runs, added, and the slowest one's milliseconds. Each report must be as it should."""
     counts, slowest = [0] * len(COUNTERS), 0
     lines = iter(lines)
     for run in range(runs):
@@ -145,7 +163,10 @@ def count_runs(folder, runs):
     put_counters(folder)
     put_program(folder, "many_runs", runs, 8)
     counts, slowest = read_runs(tried(folder, "many_runs", "--seconds", "600").splitlines(), runs, 8)
-    print(f"{runs} runs with a cut, 1 to 16 processors in turn, on {page.machine()}: all close ok, the slowest in {slowest} ms")
+    print(
+        f"{runs} runs with a cut, 1 to 16 processors in turn, on {page.machine()}: all close ok, the slowest in "
+        f"{slowest} ms"
+    )
     for count, what in zip(counts, COUNTERS):
         print(f"{count:10,} {what}")
     put_program(folder, "long_run", 1, 1000)
@@ -163,12 +184,16 @@ def run_program(program, runs):
     for run in range(runs):
         cpus = 1 + run % 16
         begun = time.perf_counter()
-        done = subprocess.run([program, "threads", "--cpus", str(cpus), "--cut"], capture_output=True, text=True, timeout=60)
+        done = subprocess.run(
+            [program, "threads", "--cpus", str(cpus), "--cut"], capture_output=True, text=True, timeout=60
+        )
         slowest = max(slowest, time.perf_counter() - begun)
         if done.returncode or done.stdout.splitlines() != report_of(cpus, 8):
             sys.exit(f"{cpus} processors: status {done.returncode}\n{done.stdout}{done.stderr}")
     begun = time.perf_counter()
-    done = subprocess.run([program, "threads", "--cpus", "16", "--calls", "1000", "--cut"], capture_output=True, text=True, timeout=60)
+    done = subprocess.run(
+        [program, "threads", "--cpus", "16", "--calls", "1000", "--cut"], capture_output=True, text=True, timeout=60
+    )
     longest = time.perf_counter() - begun
     if done.returncode or done.stdout.splitlines() != report_of(16, 1000):
         sys.exit(f"1000 calls: status {done.returncode}\n{done.stdout}{done.stderr}")
@@ -178,7 +203,8 @@ def run_program(program, runs):
 
 
 def refuse(program):
-    """Refuses each growth of a run with two processors in turn: the run ends, with the whole report, or with none and status 4."""
+    """Refuses each growth of a run with two processors in turn: the run ends, with the whole report, or with none and
+    status 4."""
     ended, whole = {0: 0, 4: 0}, "".join(f"{line}\n" for line in report_of(2, 8)).encode()
     with tempfile.TemporaryDirectory(prefix="threads-") as place:
         refuser = Refuser(place)
@@ -190,14 +216,21 @@ def refuse(program):
             if not reached:
                 break
             ended[done.returncode] += 1
-    print(f"{number - 1} growths of a run with two processors, each refused once: {ended[4]} times no memory, {ended[0]} times the whole report")
+    print(
+        f"{number - 1} growths of a run with two processors, each refused once: {ended[4]} times no memory, "
+        f"{ended[0]} times the whole report"
+    )
 
 
 def asked():
-    parser = argparse.ArgumentParser(description="Runs migrations in threads many times, and counts what the threads met.")
+    parser = argparse.ArgumentParser(
+        description="Runs migrations in threads many times, and counts what the threads met."
+    )
     parser.add_argument("--runs", type=int, default=1000, metavar="N", help="how many runs")
     parser.add_argument("--program", metavar="PATH", help="a built postmig, which is run as often")
-    parser.add_argument("--refusals", action="store_true", help="refuses each growth of a run of the program in turn instead")
+    parser.add_argument(
+        "--refusals", action="store_true", help="refuses each growth of a run of the program in turn instead"
+    )
     return parser.parse_args()
 
 

@@ -1,12 +1,14 @@
 #!/usr/bin/env python3
-"""Compares the wires of runs with their output: docs/decode.py decodes every frame, and the frames are those that the lines name.
+"""Compares the wires of runs with their output: docs/decode.py decodes every frame, and the frames are those that the
+lines name.
 
 python3 bench/compare/wires.py [SEEDS] [--first SEED] [--lines N] [--program PATH]
 
-It runs `postmig run --wire --back --urgent` on each example, and for each seed from SEED on (1), SEEDS of them (25), on a script of each
-profile of `postmig explore`. What is put on each wire follows from the lines of the output; the decoded frames have to be these, with
-their epochs, in this order, and the output the one of `postmig run`. The part of each wire up to its first Package goes to
-`postmig frames`, which takes it as the destination took it. Run it once ./postmig prove has built the program.
+It runs `postmig run --wire --back --urgent` on each example, and for each seed from SEED on (1), SEEDS of them (25), on
+a script of each profile of `postmig explore`. What is put on each wire follows from the lines of the output; the
+decoded frames must be these, with their epochs, in this order, and the output the one of `postmig run`. The part of
+each wire up to its first Package goes to `postmig frames`, which takes it as the destination took it. Run it once
+./postmig prove has built the program.
 """
 
 import argparse
@@ -193,13 +195,19 @@ def main():
     for seed in range(given.first, given.first + given.seeds):
         for profile in PROFILES:
             cpus = str((1, 2, 4, 16)[seed % 4])
-            words = [*program, "explore", "--seed", str(seed), "--lines", str(given.lines), "--profile", profile, "--cpus", cpus]
+            words = [
+                *program, "explore", "--seed", str(seed), "--lines", str(given.lines), "--profile", profile, "--cpus",
+                cpus,
+            ]
             judge(program, f"{profile} {seed}", run(words).stdout, cpus, counts)
             scripts += 1
     fronts, size = counts.pop("fronts"), counts.pop("bytes")
     for name in sorted(counts):
         print(f"{name:16} {counts[name]}")
-    print(f"{scripts} scripts, {sum(counts.values())} frames in {size} bytes, all named by the lines; {fronts} fronts taken by postmig frames")
+    print(
+        f"{scripts} scripts, {sum(counts.values())} frames in {size} bytes, all named by the lines; {fronts} fronts "
+        "taken by postmig frames"
+    )
 
 
 if __name__ == "__main__":

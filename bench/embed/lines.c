@@ -155,7 +155,7 @@ static void frames(void)
     WANT(postmig_frames_feed(&open, bytes, 28) == POSTMIG_OK && postmig_frames_next(&open, &frame, out, 11, &written) == POSTMIG_NO_ROOM && written == 12);
     WANT(postmig_frames_feed(&open, bytes, 1) == POSTMIG_FRAMES_WAIT && postmig_frames_next(&open, &frame, out, 12, &written) == POSTMIG_OK);
     WANT(frame.tag == 1 && postmig_frames_next(&open, &frame, out, 16, &written) == POSTMIG_OK && frame.tag == 3);
-    /* the fault behind a frame comes after it, and stays */
+    /* the fault that follows a frame is returned after it, and stays */
     memcpy(out, bytes, 12);
     memcpy(out + 12, "\2\3\0\0\0\0\0\1\0\0\0\5\0\0\0", 15);
     WANT(postmig_frames_feed(&open, out, 27) == POSTMIG_OK && postmig_frames_next(&open, &frame, got, sizeof got, &written) == POSTMIG_OK && frame.tag == 1);
@@ -173,7 +173,7 @@ static void frames(void)
         WANT(postmig_frames_new(&open) == POSTMIG_OK && postmig_frames_feed(&open, (const uint8_t *)faulty[i].bytes, 12) == POSTMIG_OK);
         WANT(postmig_frames_next(&open, &frame, got, sizeof got, &written) == faulty[i].fault);
     }
-    /* a world in the place of a decoder */
+    /* a world instead of a decoder */
     WANT(postmig_world_new(1, false, &open) == POSTMIG_OK && postmig_world_counts(&open, &counts) == POSTMIG_OK);
     postmig_free(&open);
 }

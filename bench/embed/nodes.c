@@ -108,7 +108,7 @@ static postmig_command store(uint64_t addr)
     return (postmig_command){ .kind = POSTMIG_STORE, .width = 8, .addr = addr };
 }
 
-/* The frames that the source sent come to the destination. */
+/* The frames that the source sent reach the destination. */
 static void deliver(void)
 {
     DO(postmig_node_frame(&source, text, sizeof text, &length));

@@ -42,7 +42,7 @@ static void open_wire(struct wire *wire, const char *number)
         fail("a wire");
 }
 
-/* All that has come. */
+/* All that has arrived. */
 static void fill(struct wire *wire)
 {
     ssize_t count;
@@ -258,7 +258,7 @@ static char **words_of(char *line)
     return words;
 }
 
-/* What has come and was not taken is lost with its channel. */
+/* What has arrived and was not taken is lost with its channel. */
 static void drop(struct wire *wire)
 {
     if (wire->file < 0)

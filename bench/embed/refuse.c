@@ -1,4 +1,4 @@
-/* Each allocation refused in turn: a call answers POSTMIG_NO_MEMORY or what it answers with memory, a world and a decoder go on after that,
+/* Each allocation refused in turn: a call returns POSTMIG_NO_MEMORY or what it returns with memory, a world and a decoder continue after that,
    and nothing leaks.
 
    refuse STREAM NAME.script NAME.out .. */

@@ -1,8 +1,8 @@
 """The bytes of frames, as docs/FORMATS.md has them.
 
-A frame is (epoch, name, fields), as docs/decode.py returns it. That example is the decoder of the form; `read` adds the limits. A set of pages
-is a list of runs (first page, count), an area has its protection as a third number, and a command is (), (address, width) or (address, width,
-value).
+A frame is (epoch, name, fields), as docs/decode.py returns it. That example is the decoder of the form; `read` adds the
+limits. A set of pages is a list of runs (first page, count), an area has its protection as a third number, and a
+command is (), (address, width) or (address, width, value).
 """
 
 import pathlib
@@ -20,7 +20,8 @@ MOST = {1: 16_384, 2: 262_144}
 HEADER = 12
 LONGEST_RUN = 64
 TAGS = {name: tag for tag, name in decode.NAMES.items()}
-# The lengths of bodies: of these names one, of those of lists a first one to which 8 are added for each run, up to another.
+# The lengths of bodies: of these names one, of those of lists a first one to which 8 are added for each run, up to
+# another.
 LENGTHS = {"advise": 0, "page": 4 + PAGE, "zero": 4, "end": 4, "resume": 0, "request": 4, "done": 0}
 
 
@@ -63,7 +64,8 @@ def is_length(version, name, length):
 
 
 def are_in_order(runs, most=HIGH):
-    """Whether runs or areas ascend, each with a page between it and one of the same protection before it, and have at most this many pages."""
+    """Whether runs or areas ascend, each with a page between it and one of the same protection before it, and have at
+    most this many pages."""
     end, before = 0, None
     for first, count, *protection in runs:
         if count == 0 or first < max(LOW, end + (protection == before)) or first + count > HIGH or protection > [2]:
@@ -146,7 +148,9 @@ def body_of(name, fields):
         return struct.pack(">I", fields["page"]) + fields.get("bytes", b"")
     if name == "package":
         commands = fields["commands"]
-        return runs_text(fields["areas"]) + runs_text(fields["owed"]) + bytes([len(commands)]) + b"".join(map(command_text, commands))
+        return runs_text(fields["areas"]) + runs_text(fields["owed"]) + bytes([len(commands)]) + b"".join(
+            map(command_text, commands)
+        )
     if name == "recv":
         return bytes([decode.STATES.index(fields["state"])]) + runs_text(fields["owed"])
     if name == "end":

@@ -1,7 +1,8 @@
 """The source and the destination of a migration, as docs/PROTOCOL.md has them.
 
-A step returns its line, as docs/SCRIPT.md has it, or raises Refused and has changed nothing. A class with wires or a host overrides the calls
-under that head. Without them what a node sends is lost, and its memory is the bytes of its present pages.
+A step returns its line, as docs/SCRIPT.md has it, or raises Refused and has changed nothing. A class with wires or a
+host overrides the calls under that head. Without them what a node sends is lost, and its memory is the bytes of its
+present pages.
 """
 
 from collections import deque
@@ -52,10 +53,14 @@ class Destination:
 
     def is_bad_package(self, areas, owed, commands):
         mapped, owed = pages_in(areas), pages_in(owed)
-        return len(commands) != self.cpus or not owed <= mapped or any(page in owed or page not in mapped for page in self.kept)
+        return (
+            len(commands) != self.cpus
+            or not owed <= mapped
+            or any(page in owed or page not in mapped for page in self.kept)
+        )
 
     def wait_fault(self, name, fields):
-        """Why a frame has to wait. Only End may have to."""
+        """Why a frame must wait. Only End may need to."""
         if name == "end" and self.arrivals:
             return "InstallFirst"
         return "UrgentFirst" if name == "end" and fields["urgent"] > self.urgent_taken else None
@@ -68,7 +73,10 @@ class Destination:
             return "OutOfPlace"
         if name == "resume" and epoch <= self.epoch or name not in ("advise", "resume") and epoch != self.epoch:
             return "StaleEpoch"
-        if name == "package" and self.is_bad_package(**fields) or name == "end" and fields["urgent"] < self.urgent_taken:
+        if (
+            name == "package" and self.is_bad_package(**fields)
+            or name == "end" and fields["urgent"] < self.urgent_taken
+        ):
             return "BadFrame"
         return self.wait_fault(name, fields)
 

@@ -1,4 +1,4 @@
-/* Stands between a program and malloc, and refuses its growth number REFUSED, once. It makes the file REFUSED_TOLD when it does.
+/* Is loaded between a program and malloc, and refuses its growth number REFUSED, once. It makes the file REFUSED_TOLD when it does.
    bench/compare/refusals.py builds it as a library for LD_PRELOAD. */
 #include <errno.h>
 #include <fcntl.h>
@@ -12,7 +12,7 @@ extern void *__libc_memalign(size_t alignment, size_t size);
 
 static unsigned long asked;
 
-/* Whether this is the growth that is refused: then a file says that it came to it. */
+/* Whether this is the growth that is refused: then a file says that it was reached. */
 static int is_refused(void)
 {
     const char *which = getenv("REFUSED");

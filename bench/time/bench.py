@@ -1,7 +1,7 @@
 #!/usr/bin/env python3
 """Times postmig on scripts of its own making, and prints a table: seconds, lines a second, peak resident memory.
 
-Run it from anywhere, once ./postmig prove has built the program: python3 bench/time/bench.py [--write | NAME ..]
+Run it in any folder, once ./postmig prove has built the program: python3 bench/time/bench.py [--write | NAME ..]
 With --write the rows of SHOWN go to docs/PERFORMANCE.md.
 """
 
@@ -86,7 +86,7 @@ def precopy(pages):
 
 
 def postcopy(pages):
-    """A migration of that many present pages, all of them pushed behind the switch."""
+    """A migration of that many present pages, all of them pushed after the switch."""
     yield from pushed(pages)
     yield from loaded(pages)
 
@@ -113,8 +113,8 @@ CASES = {
 
 # The rows that the page has, by their beginnings.
 SHOWN = (
-    "| case", "|---", "| accesses-1m", "| areas-only", "| one-area", "| many-areas", "| map-unmap-8192 |", "| moves-10k |", "| precopy-256",
-    "| postcopy-256", "| precopy-16384", "| postcopy-16384",
+    "| case", "|---", "| accesses-1m", "| one-area", "| many-areas", "| moves-10k |", "| precopy-16384",
+    "| postcopy-16384",
 )
 
 # The same scripts, run to a transcript, and those transcripts checked.
@@ -157,7 +157,13 @@ def main():
     words = sys.argv[1:]
     head = f"Measured on {page.machine()}."
     rows = table(CASES if words in ([], ["--write"]) else words)
-    clock.report(head, rows, lambda text: page.put("speed", "\n".join(row for row in text.splitlines() if row.startswith((head, *SHOWN)) or not row)))
+    clock.report(
+        head,
+        rows,
+        lambda text: page.put(
+            "speed", "\n".join(row for row in text.splitlines() if row.startswith((head, *SHOWN)) or not row)
+        ),
+    )
 
 
 if __name__ == "__main__":

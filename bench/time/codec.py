@@ -1,8 +1,8 @@
 #!/usr/bin/env python3
 """Times the codec, frames of pages that are written and read, as ratios to a loop that copies pages twice.
 
-Run it from anywhere, once `rt run` has built the crate bench: python3 bench/time/codec.py [--write]. With --write the table goes to
-dist/CODEC.md.
+Run it in any folder, once `rt run` has built the crate bench: python3 bench/time/codec.py [--write]. With --write the
+table goes to dist/CODEC.md.
 """
 
 import itertools
@@ -61,7 +61,10 @@ def memory(pid):
 
 
 def pages():
-    yield "| piece | frames of a stream | allocator | codec, ns a page | two copies, ns a page | pages a second, of those of the copies |"
+    yield (
+        "| piece | frames of a stream | allocator | codec, ns a page | two copies, ns a page | pages a second, of "
+        "those of the copies |"
+    )
     yield "|---|---|---|---|---|---|"
     for name, piece, batch, rounds in PIECES:
         for tunables in (True, False):
@@ -81,13 +84,18 @@ def feeds():
 def stream():
     """A stream of 1 GiB in pieces of 64 KiB, whose frames are dropped as they come."""
     (bytes_, picoseconds), peak = run("feed", 2**16, 64, 2**30 // (64 * FRAME) + 1, True)
-    yield f"A stream of {bytes_ / 2**30:.2f} GiB in pieces of 64 KiB: {bytes_ * picoseconds / 1e12:.2f} s, peak {peak / 1024:.1f} MiB with the program."
+    yield (
+        f"A stream of {bytes_ / 2**30:.2f} GiB in pieces of 64 KiB: {bytes_ * picoseconds / 1e12:.2f} s, peak "
+        f"{peak / 1024:.1f} MiB with the program."
+    )
 
 
 def main():
     require(clock.BENCH)
     lines = itertools.chain(pages(), [""], feeds(), [""], stream())
-    clock.report(f"Measured on {page.machine()}, the best of {RUNS} runs.", lines, lambda text: page.write("CODEC.md", text))
+    clock.report(
+        f"Measured on {page.machine()}, the best of {RUNS} runs.", lines, lambda text: page.write("CODEC.md", text)
+    )
 
 
 if __name__ == "__main__":

@@ -1,13 +1,14 @@
 #!/usr/bin/env python3
-"""Runs the gate, and writes what it cost by crate: lines, and the processor seconds of its proof, its tests and its edits that must fail.
+"""Runs the gate, and writes what it cost by crate: lines, and the processor seconds of its proof, its tests and its
+edits that must fail.
 
 python3 bench/time/gate.py [--write] [COMMAND ..]
 python3 bench/time/gate.py --page
 
-Run it in a clean clone on an otherwise idle machine. The command is 'rt ci' where none is given. With --write the ledger goes to
-bench/gate.tsv and its summary to docs/PERFORMANCE.md; --page runs nothing, and writes that summary from the ledger again. The sums are
-exact, as the kernel has them at the end (user time of all processes); what belongs to which crate is seen by looking at the running
-processes five times a second, so that the end of each process is missing.
+Run it in a clean clone on an otherwise idle machine. The command is 'rt ci' where none is given. With --write the
+ledger goes to bench/gate.tsv and its summary to docs/PERFORMANCE.md; --page runs nothing, and writes that summary from
+the ledger again. The sums are exact, as the kernel has them at the end (user time of all processes); what belongs to
+which crate is seen by looking at the running processes five times a second, so that the end of each process is missing.
 """
 
 import collections
@@ -25,7 +26,9 @@ import page
 import tower
 
 LEDGER = page.TOP / "bench" / "gate.tsv"
-COLUMNS = ("proof", "tests", "first edit", "other edits", "slowest", "sum", "code", "definitions", "lemmas", "answers", "edits")
+COLUMNS = (
+    "proof", "tests", "first edit", "other edits", "slowest", "sum", "code", "definitions", "lemmas", "answers", "edits"
+)
 TICKS = os.sysconf("SC_CLK_TCK")
 KINDS = ("proof", "tests", "edits")
 
@@ -82,7 +85,8 @@ def look(root, seen):
 
 
 def watched(command):
-    """Runs a command, and returns its status, clock and user seconds, and those of each process that worked for a task."""
+    """Runs a command, and returns its status, clock and user seconds, and those of each process that worked for a
+    task."""
     seen = {}
     begun, before = time.monotonic(), resource.getrusage(resource.RUSAGE_CHILDREN).ru_utime
     child = subprocess.Popen(command, cwd=page.TOP)
@@ -106,7 +110,8 @@ def count(folder, pattern, wanted=lambda file: True):
 
 
 def lines(crate):
-    """The lines of a crate, as wc -l counts them: code, definitions, lemmas and answers; and the number of its edits that must fail."""
+    """The lines of a crate, as wc -l counts them: code, definitions, lemmas and answers; and the number of its edits
+    that must fail."""
     folder = page.TOP / "crates" / crate
     own = ("Answers.antt", "Invariants.antt", "Proof.antt")
     return (
@@ -154,12 +159,13 @@ def read_ledger():
 def summary():
     """The part of docs/PERFORMANCE.md: the whole, the dearest crates, and the proof of the program."""
     said, rows = read_ledger()
-    dearest = sorted(rows, key=lambda it: -rows[it]["sum"])[:10]
+    dearest = sorted(rows, key=lambda it: -rows[it]["sum"])[:6]
     program = [rows[it]["proof"] for it in tower.below("postmig", "uffd_audit") if it in rows]
     clock = f"{said['clock minutes']} minutes of the clock and " if "clock minutes" in said else ""
     yield (
-        f"`{said['command']}` took {clock}{said['processor minutes']} processor minutes (user time), on {said['machine']}. "
-        "Seconds of user time, of all crates and of the ten dearest:"
+        f"`{said['command']}` took {clock}{said['processor minutes']} processor minutes (user time), on "
+        f"{said['machine']}. "
+        "Seconds of user time, of all crates and of the six dearest:"
     )
     yield ""
     yield "| Crate | Proof | Tests | First edit | Other edits | Sum |"
@@ -169,7 +175,8 @@ def summary():
         yield f"| {name} | " + " | ".join(f"{sum(rows[it][column] for it in among):,}" for column in shown) + " |"
     yield ""
     yield (
-        f"The proofs of the {len(program)} crates of the program, which `./postmig prove` makes, are {sum(program):,} s of it, "
+        f"The proofs of the {len(program)} crates of the program, which `./postmig prove` makes, are {sum(program):,} "
+        "s of it, "
         f"{sum(program) / 60:.0f} processor minutes."
     )
 

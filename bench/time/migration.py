@@ -1,8 +1,8 @@
 #!/usr/bin/env python3
-"""Times what a migration does for each page, by script and by World::step, as ratios to loops that copy pages.
+"""Times what a migration does for each page, by script and by World::step, beside loops that copy pages.
 
-Run it from anywhere, once ./postmig prove has built the program, and `rt run` the crate bench: python3 bench/time/migration.py [--write].
-With --write the rows of more than 1,024 pages go to docs/PERFORMANCE.md.
+Run it in any folder, once ./postmig prove has built the program, and `rt run` the crate bench: python3
+bench/time/migration.py [--write]. With --write the rows of more than 1,024 pages go to docs/PERFORMANCE.md.
 """
 
 import collections
@@ -41,7 +41,9 @@ def faulted(pages):
     yield from switched(pages)
     for index in range(pages):
         addr = f"{LOW + index * PAGE:#x}"
-        yield from (f"cpu 0 load {addr} 8", "dread", "dact", "back", "serve", f"push {addr}", "deliver", "install", "retry 0")
+        yield from (
+            f"cpu 0 load {addr} 8", "dread", "dact", "back", "serve", f"push {addr}", "deliver", "install", "retry 0"
+        )
 
 
 # What is done for each page, as `bench world` calls it, with the script of what comes before and the script with it.
@@ -54,7 +56,8 @@ WORK = {
 
 
 def play_all(pages, runs):
-    """The least seconds of each script and its most memory in bytes. They take turns, so that a slow while is not one script's alone."""
+    """The least seconds of each script and its most memory in bytes. They take turns, so that a slow while is not one
+    script's alone."""
     scripts = sorted({script for pair in WORK.values() for script in pair}, key=lambda it: it.__name__)
     memory = collections.Counter()
     with tempfile.TemporaryDirectory() as folder:
@@ -72,8 +75,8 @@ def play_all(pages, runs):
 
 
 def steps(pages, runs):
-    """Nanoseconds a page by World::step, the least of some runs, and those of the copies. New ones are timed in a process of their own:
-    as a run of a script it has no memory from other work."""
+    """Nanoseconds a page by World::step, the least of some runs, and those of the copies. New ones are timed in a
+    process of their own: as a run of a script it has no memory from other work."""
     least = {}
     for _ in range(runs):
         for words in ([pages], ["new-copies", pages]):
@@ -85,26 +88,35 @@ def steps(pages, runs):
 
 
 def table():
-    yield "| for each page | pages | by script, ns | by step, ns | a copy, ns | by script, copies | by step, copies | a new copy, ns | by script, new copies |"
-    yield "|---|---|---|---|---|---|---|---|---|"
+    yield "| for each page | pages | by script, ns | by step, ns | a copy, ns | a new copy, ns |"
+    yield "|---|---|---|---|---|---|"
     for pages, runs in NUMBERS:
         by_step = steps(pages, runs)
-        copy, new = max(by_step["copy"], 1), max(by_step["new-copy"], 1)
+        copy, new = by_step["copy"], by_step["new-copy"]
         seconds, memory = play_all(pages, runs)
         for name, (base, whole) in WORK.items():
             script = (seconds[whole] - seconds[base]) * 1e9 / pages
-            yield f"| {name} | {pages:,} | {script:,.0f} | {by_step[name]:,} | {copy:,} | {script / copy:.1f} | {by_step[name] / copy:.1f} | {new:,} | {script / new:.1f} |"
+            yield f"| {name} | {pages:,} | {script:,.0f} | {by_step[name]:,} | {copy:,} | {new:,} |"
             if name == "post-copy":
                 present = 2 * pages * PAGE
-                note = f"peak {memory[whole] / 2**20:,.0f} MiB, {memory[whole] / present:.2f} of the pages present on both hosts"
-                yield f"| {name}, whole run | {pages:,} | {note} | | | | | | |"
+                note = (
+                    f"peak {memory[whole] / 2**20:,.0f} MiB, {memory[whole] / present:.2f} of the pages present on "
+                    "both hosts"
+                )
+                yield f"| {name}, whole run | {pages:,} | {note} | | | |"
 
 
 def main():
     require(PROGRAM, clock.BENCH)
     runs = ", ".join(str(runs) for _, runs in NUMBERS[1:])
     head = f"Measured on {page.machine()}, the least of {runs} runs of each script."
-    clock.report(head, table(), lambda text: page.put("migration", "\n".join(row for row in text.splitlines() if not re.match(r"\| [^|]+ \| 1,024 \|", row))))
+    clock.report(
+        head,
+        table(),
+        lambda text: page.put(
+            "migration", "\n".join(row for row in text.splitlines() if not re.match(r"\| [^|]+ \| 1,024 \|", row))
+        ),
+    )
 
 
 if __name__ == "__main__":

@@ -1,18 +1,20 @@
 #!/usr/bin/env python3
-"""Compares two builds of a program, on the same scripts and in turns: the clock, and the instructions that callgrind counts.
+"""Compares two builds of a program, on the same scripts and in turns: the clock, and the instructions that callgrind
+counts.
 
 python3 bench/time/turns.py [BEFORE AFTER] [--bench BEFORE AFTER] [--runs N]
 
-The first pair are two postmig programs (crates/postmig/out/postmig). They run the scripts of migration.py and some of bench.py. The
-pair behind --bench are two programs that time the codec: the crate bench, or a program by another name, which takes the words behind
-`bench frames` as its own. Each is copied before it runs, so that a build may go on. N is 20 where it is not given.
+The first pair are two postmig programs (crates/postmig/out/postmig). They run the scripts of migration.py and some of
+bench.py. The pair after --bench are two programs that time the codec: the crate bench, or a program by another name,
+which takes the words after `bench frames` as its own. Each is copied before it runs, so that a build may continue. N is
+20 where it is not given.
 
-Of each script it prints the least seconds of N runs of both programs and the ratio, and then the instructions of user space: of a
-migration those for a page, as the difference between a run with the lines for the pages and one without them, else those for a line.
-Migrations of more pages than COUNTED are counted with that many. Of the codec it prints nanoseconds a page or a byte, and
-the instructions of a frame, as the difference between many rounds and few; those of `pages` are of the codec's loop alone (LOOP), without
-the copies beside it.
-The last line has the greatest ratio of instructions.
+Of each script it prints the least seconds of N runs of both programs and the ratio, and then the instructions of user
+space: of a migration those for a page, as the difference between a run with the lines for the pages and one without
+them, else those for a line. Migrations of more pages than COUNTED are counted with that many. Of the codec it prints
+nanoseconds a page or a byte, and the instructions of a frame, as the difference between many rounds and few; those of
+`pages` are of the codec's loop alone (LOOP), without the copies beside it. The last line has the greatest ratio of
+instructions.
 """
 
 import argparse
@@ -45,7 +47,8 @@ LINES = {
     "moves-10k": True,
 }
 
-# What the codec is timed on: a kind, the bytes of a piece, the frames of a stream, and the rounds of a run on the clock.
+# What the codec is timed on: a kind, the bytes of a piece, the frames of a stream, and the rounds of a run on the
+# clock.
 CODEC = (
     ("pages", 4112, 1, 100_000),
     ("pages", 2**16, 256, 500),
@@ -66,7 +69,9 @@ def instructions(program, words, script=os.devnull, function=None):
     only = [f"--toggle-collect={function}"] if function else []
     command = ["valgrind", "--tool=callgrind", f"--callgrind-out-file={os.devnull}", *only, program, *words]
     with open(script) as source:
-        done = subprocess.run(command, stdin=source, stdout=subprocess.DEVNULL, stderr=subprocess.PIPE, env=page.environment())
+        done = subprocess.run(
+            command, stdin=source, stdout=subprocess.DEVNULL, stderr=subprocess.PIPE, env=page.environment()
+        )
     said = done.stderr.decode(errors="replace")
     counted = re.search(r"Collected : (\d+)", said)
     if done.returncode or not counted:
@@ -178,7 +183,13 @@ def compare_codecs(programs, runs):
         took = clock.least(lambda: [codec_clock(program, kind, piece, batch, rounds) for program in programs], runs)
         counted = [codec_count(program, kind, piece, batch) for program in programs]
         ratios.append(counted[1] / counted[0])
-        row(f"{kind}, pieces of {piece:,}, {batch:,} frames", "page" if kind == "pages" else "byte, frame", took, 0, counted)
+        row(
+            f"{kind}, pieces of {piece:,}, {batch:,} frames",
+            "page" if kind == "pages" else "byte, frame",
+            took,
+            0,
+            counted,
+        )
     return ratios
 
 
@@ -195,8 +206,12 @@ def copied(folder, programs):
 
 def asked():
     parser = argparse.ArgumentParser(description="Compares two builds of a program on the same scripts, in turns.")
-    parser.add_argument("programs", nargs="*", type=file_at, metavar="PROGRAM", help="two postmig programs, before and after")
-    parser.add_argument("--bench", nargs=2, type=file_at, metavar=("BEFORE", "AFTER"), help="two programs that time the codec")
+    parser.add_argument(
+        "programs", nargs="*", type=file_at, metavar="PROGRAM", help="two postmig programs, before and after"
+    )
+    parser.add_argument(
+        "--bench", nargs=2, type=file_at, metavar=("BEFORE", "AFTER"), help="two programs that time the codec"
+    )
     parser.add_argument("--runs", type=int, default=20, metavar="N", help="the runs of each script")
     arguments = parser.parse_args()
     if len(arguments.programs) not in (0, 2) or not (arguments.programs or arguments.bench) or arguments.runs < 1:

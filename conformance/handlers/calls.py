@@ -1,4 +1,5 @@
-"""The calls of a handler: lines on standard output, each answered by a line; or with --descriptor the system calls themselves."""
+"""The calls of a handler: lines on standard output, each answered by a line; or with --descriptor the system calls
+themselves."""
 
 import sys
 

@@ -1,4 +1,5 @@
-"""The calls of a handler on a real descriptor. Standard input is a Unix socket: the descriptor comes first on it, and then the frames."""
+"""The calls of a handler on a real descriptor. Standard input is a Unix socket: the descriptor comes first on it, and
+then the frames."""
 
 import ctypes
 import errno

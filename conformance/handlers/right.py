@@ -3,8 +3,9 @@
 
 conformance/handlers/right.py [--bug NAME | --way NAME] [--descriptor]
 
-It makes the calls of calls.py: `next` and `read` for poll(2) and read(2), `copy`, `zeropage` and `wake` for the three ioctls, `send` for send(2).
-With --bug it has one of the bugs of wrong.py, with --way it is right in one of the ways of ways.py.
+It makes the calls of calls.py: `next` and `read` for poll(2) and read(2), `copy`, `zeropage` and `wake` for the three
+ioctls, `send` for send(2). With --bug it has one of the bugs of wrong.py, with --way it is right in one of the ways of
+ways.py.
 """
 
 import importlib
@@ -39,8 +40,8 @@ def runs_text(pages):
 
 
 class Handler:
-    """owed: for each owed page, as it lies now, its number at the source. requested: those asked for, by that number. again: what was refused with
-    EAGAIN, to be tried again. moved: the old places of which an UNMAP is still to come."""
+    """owed: for each owed page, as it lies now, its number at the source. requested: those asked for, by that number.
+    again: what was refused with EAGAIN, to be tried again. moved: the old places of which an UNMAP is still to come."""
 
     ROOM = 16
 
@@ -51,7 +52,8 @@ class Handler:
     def run(self):
         while True:
             if self.again:
-                # (EAGAIN: an event is unread, or the call that had one has not gone on yet; so nothing may come that could be waited for)
+                # (EAGAIN: an event is unread, or the call that had one has not gone on yet; so nothing may come that
+                # could be waited for)
                 self.take_messages([*self.read(self.ROOM)])
                 continue
             kind, text = call("next")
@@ -71,7 +73,8 @@ class Handler:
     # ---- messages ----
 
     def take_messages(self, messages):
-        """Events first: they change which pages are owed, and once they are read a kernel lets ioctls through that are by the old table."""
+        """Events first: they change which pages are owed, and once they are read a kernel lets ioctls through that are
+        by the old table."""
         faults = []
         for message in messages:
             kind, *numbers = struct.unpack("<B7x3Q", message)
@@ -120,7 +123,8 @@ class Handler:
     # ---- pages ----
 
     def put(self, page, data, act):
-        """Makes a page present, and wakes who sleeps on it: whether that is done. `act` is what to do again after EAGAIN."""
+        """Makes a page present, and wakes who sleeps on it: whether that is done. `act` is what to do again after
+        EAGAIN."""
         said = call("copy", hex(page * PAGE), 0, data.hex()) if data else call("zeropage", hex(page * PAGE), PAGE, 0)
         if said == ["refused", "EAGAIN"]:
             self.again.append(act)

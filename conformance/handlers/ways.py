@@ -1,4 +1,5 @@
-"""Other right handlers: in each, one thing that right.py does is done in another way that the rules allow. conformance/handler has to take them."""
+"""Other right handlers: in each, one thing that right.py does is done in another way that the rules allow.
+conformance/handler must take them."""
 
 import os
 import select
@@ -50,7 +51,7 @@ class AsksAgain(Handler):
 
 
 class WakesMore(Handler):
-    """It wakes everybody after each batch of messages, also those who have to sleep again."""
+    """It wakes everybody after each batch of messages, also those who must sleep again."""
 
     def take_messages(self, messages):
         super().take_messages(messages)

@@ -1,4 +1,5 @@
-"""Wrong handlers: in each, one thing that right.py does is done otherwise. conformance/handler has to find each of them."""
+"""Wrong handlers: in each, one thing that right.py does is done otherwise. conformance/handler must find each of
+them."""
 
 import sys
 
@@ -86,7 +87,7 @@ class AgainIsDropped(Handler):
 
 
 class AgainIsLate(Handler):
-    """What is refused with EAGAIN is tried again when the next message or frame has come."""
+    """What is refused with EAGAIN is tried again when the next message or frame has arrived."""
 
     def run(self):
         while True:

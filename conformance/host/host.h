@@ -21,7 +21,7 @@ uint64_t number(const char *word);
 double now(void);    // milliseconds
 extern int patience; // milliseconds that a thread may take to end or to fall asleep
 
-// calls.c: the commands of a processor, spelled as in a script
+// calls.c: the commands of a processor, written as in a script
 enum kind { LOAD,
             STORE,
             MMAP,

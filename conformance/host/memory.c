@@ -71,7 +71,7 @@ struct area {
     int modes; // 1: missing faults, 2: write-protect faults
 };
 
-// Calls `each` for each area below HIGH. The modes stand in smaps alone, which takes the kernel longer.
+// Calls `each` for each area below HIGH. The modes are in smaps alone, which takes the kernel longer.
 static void each_area(int with_modes, void (*each)(const struct area *))
 {
     FILE *file = fopen(with_modes ? "/proc/self/smaps" : "/proc/self/maps", "re");
@@ -102,7 +102,7 @@ static void refuse_area(const struct area *area)
     die("0x%lx-0x%lx is not free for the guest", area->start, area->end);
 }
 
-// The guest's space has to be free. The page behind it is taken, so that nothing grows over its end.
+// The guest's space must be free. The page after it is taken, so that nothing grows over its end.
 void require_free_space(void)
 {
     void *behind = (void *)HIGH;

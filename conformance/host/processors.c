@@ -306,7 +306,7 @@ void await_processor(int k)
         answer("%s", outcome(&processors[k], !is_readable()));
 }
 
-// Whether messages wait does not matter here: the thread has to leave the kernel.
+// Whether messages wait does not matter here: the thread must leave the kernel.
 void kick_processor(int k)
 {
     struct processor *processor = &processors[k];

@@ -12,7 +12,8 @@ GREATEST = 2**64 - 1
 
 
 class Parser(argparse.ArgumentParser):
-    """argparse has status 2 for a wrong option, which is in conformance/ that of a machine that cannot replay, and prints its usage as well."""
+    """argparse has status 2 for a wrong option, which is in conformance/ that of a machine that cannot replay, and
+    prints its usage as well."""
 
     def __init__(self, description, status=1):
         script = pathlib.Path(sys.argv[0]).absolute()
@@ -20,7 +21,7 @@ class Parser(argparse.ArgumentParser):
         self.status = status
 
     def parse_args(self, args=None, namespace=None):
-        """Options may stand between the arguments."""
+        """Options may be between the arguments."""
         return self.parse_intermixed_args(args, namespace)
 
     def error(self, message):
@@ -55,7 +56,11 @@ def named(parser, words, names, is_all=False):
 def seeds(text):
     """The seeds of FIRST:LAST, or one."""
     ends = text.split(":")
-    if len(ends) > 2 or not all(it.isascii() and it.isdigit() for it in ends) or not int(ends[0]) <= int(ends[-1]) <= GREATEST:
+    if (
+        len(ends) > 2
+        or not all(it.isascii() and it.isdigit() for it in ends)
+        or not int(ends[0]) <= int(ends[-1]) <= GREATEST
+    ):
         raise argparse.ArgumentTypeError(f"{text!r} is no seed and no range FIRST:LAST of seeds")
     return range(int(ends[0]), int(ends[-1]) + 1)
 

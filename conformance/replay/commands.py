@@ -6,13 +6,15 @@ from .script import Dontneed, Load, Mmap, Mremap, Munmap, Store
 # The pages among which most scripts stay.
 FIRST, COUNT = LOW // PAGE, 24
 PROTECTIONS = ("rw",) * 8 + ("r", "none")
-ODD_ADDRESSES = (0, PAGE, LOW - PAGE, HIGH - PAGE, HIGH - 2 * PAGE, HIGH, HIGH + PAGE, 1 << 47, (1 << 64) - PAGE, (1 << 64) - 1)
+ODD_ADDRESSES = (
+    0, PAGE, LOW - PAGE, HIGH - PAGE, HIGH - 2 * PAGE, HIGH, HIGH + PAGE, 1 << 47, (1 << 64) - PAGE, (1 << 64) - 1
+)
 ODD_LENGTHS = (0, 1, PAGE - 1, PAGE + 1, HIGH - LOW, HIGH, MAX_PAGES * PAGE, 1 << 46, 1 << 47, 1 << 63, (1 << 64) - 1)
 
 
 class Commands:
-    """pages: the pages that are mapped, with their protections, as far as the answers say. odd: the share of addresses and lengths that are far
-    off."""
+    """pages: the pages that are mapped, with their protections, as far as the answers say. odd: the share of addresses
+    and lengths that are far off."""
 
     def __init__(self, random, odd):
         self.random, self.odd, self.pages = random, odd, {}
@@ -42,8 +44,16 @@ class Commands:
         return self.random.choice((1, 1, 1, 2, 2, 3, 4)) * PAGE - (1 if self.random.random() < self.odd else 0)
 
     def access(self):
-        width = self.random.choice((8, 8, 8, 4, 2, 1)) if self.random.random() > self.odd / 2 else self.random.choice((0, 3, 16, 255))
-        at = self.random.randrange(0, PAGE // 8) * 8 if self.random.random() > self.odd / 2 else self.random.randrange(PAGE)
+        width = (
+            self.random.choice((8, 8, 8, 4, 2, 1))
+            if self.random.random() > self.odd / 2
+            else self.random.choice((0, 3, 16, 255))
+        )
+        at = (
+            self.random.randrange(0, PAGE // 8) * 8
+            if self.random.random() > self.odd / 2
+            else self.random.randrange(PAGE)
+        )
         addr = self.addr() // PAGE * PAGE + at
         if self.random.random() < 0.4:
             return Load(addr, width)

@@ -16,9 +16,10 @@ from .world import World, replay
 
 @dataclass
 class Job:
-    """A script with the answers that a model gives. fault: what the model says on standard error, None where that is not known. program: the words
-    that start a postmig, or None. implementation: the words that start the program which is compared instead of a replay. recipe: of a random script
-    that is yet to be made, its seed, profile and number of lines. is_stored: whether the answers are those of a file."""
+    """A script with the answers that a model gives. fault: what the model says on standard error, None where that is
+    not known. program: the words that start a postmig, or None. implementation: the words that start the program which
+    is compared instead of a replay. recipe: of a random script that is yet to be made, its seed, profile and number of
+    lines. is_stored: whether the answers are those of a file."""
 
     name: str
     data: bytes
@@ -33,7 +34,8 @@ class Job:
 
 @dataclass
 class Result:
-    """counts: by (tag or None, kind of line). differing: (where, line, model, other) of each unexpected thing. shown: known ones."""
+    """counts: by (tag or None, kind of line). differing: (where, line, model, other) of each unexpected thing. shown:
+    known ones."""
 
     name: str
     counts: Counter = field(default_factory=Counter)
@@ -94,7 +96,7 @@ def checked(program, entries):
 
 
 def implementation_lines(job):
-    """The lines of another program, as a replay has them. `# TAG ..` may stand behind a line."""
+    """The lines of another program, as a replay has them. `# TAG ..` may follow a line."""
     said, fault = run([*job.implementation, "run", "--cpus", str(job.settings.cpus)], job.data)
     lines = iter(said.splitlines())
     for number, line, _ in script.steps(job.data):
@@ -135,13 +137,16 @@ class Comparison:
         return result
 
     def compare_stored(self):
-        """Answers of a file have to be the program's, where there is one."""
+        """Answers of a file must be the program's, where there is one."""
         job = self.job
         if not job.is_stored or not job.program:
             return
         now, _ = answers_of(job.program, job.settings.cpus, job.data)
         if now != job.answers:
-            at = next((at for at, pair in enumerate(zip(now, job.answers)) if pair[0] != pair[1]), min(len(now), len(job.answers)))
+            at = next(
+                (at for at, pair in enumerate(zip(now, job.answers)) if pair[0] != pair[1]),
+                min(len(now), len(job.answers)),
+            )
             self.differ("the stored answers", f"answer {at + 1}", "".join(now[at : at + 1]), self.wanted(at))
 
     def wanted(self, at):
@@ -185,7 +190,8 @@ class Comparison:
         return found != "unexpected"
 
     def compare_memory(self, world):
-        """The memory of the kernel at the end has to follow from the transcript: that of the replay, and that of the model."""
+        """The memory of the kernel at the end must follow from the transcript, of the replay and of the
+        model."""
         memory, node = world.memory(), world.running()
         totals = self.result.totals
         totals["migrations that completed"] += world.source.phase == "released"
@@ -194,7 +200,9 @@ class Comparison:
             return
         loads = sweep(memory, node.guest.host.areas()) if memory else []
         totals["pages compared at the end"] += len(memory)
-        model = run([*self.program, "run", "--transcript", "--cpus", str(self.job.settings.cpus)], self.job.data)[0].splitlines()
+        model = run([*self.program, "run", "--transcript", "--cpus", str(self.job.settings.cpus)], self.job.data)[
+            0
+        ].splitlines()
         own = [script.entry(*entry) for entry in world.transcript]
         for whose, entries in (("model", model), ("replay", own)):
             wrong = checked(self.program, entries + loads)
@@ -203,7 +211,8 @@ class Comparison:
         totals["scripts whose memory was compared"] += 1
 
     def excuse_late(self):
-        """With --late a dontneed clears later than in the model: what differs after that counts as one difference of its own."""
+        """With --late a dontneed clears later than in the model: what differs after that counts as one difference of
+        its own."""
         result = self.result
         if not result.differing:
             return

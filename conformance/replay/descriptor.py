@@ -1,7 +1,8 @@
 """Judges a handler that has a real descriptor: by what its ioctls have done, since they are not seen.
 
-The program is stopped but for its turns. In a turn it runs until it waits for more, with nothing left to read: then each of its threads sleeps in
-the kernel. What it has put is looked up in the guest's memory, and the events that it has read follow from the guest's call."""
+The program is stopped but for its turns. In a turn it runs until it waits for more, with nothing left to read: then
+each of its threads sleeps in the kernel. What it has put is looked up in the guest's memory, and the events that it has
+read follow from the guest's call."""
 
 import array
 import fcntl
@@ -47,7 +48,7 @@ def borrowed(host):
 
 
 def threads_of(pid):
-    """(state, where it waits, how often it gave up the processor) of each thread of a process."""
+    """(state, where it waits, how often it left the processor) of each thread of a process."""
     for task in pathlib.Path(f"/proc/{pid}/task").iterdir():
         try:
             state = (task / "stat").read_text().rpartition(")")[2].split()[0]
@@ -58,7 +59,8 @@ def threads_of(pid):
 
 
 class DescriptorProgram:
-    """Its standard input is a Unix socket. The descriptor comes first on it, with one byte, and then the frames of the source."""
+    """Its standard input is a Unix socket. The descriptor comes first on it, with one byte, and then the frames of the
+    source."""
 
     def __init__(self, words, settings, descriptor):
         self.settings, self.descriptor, self.unread = settings, descriptor, b""
@@ -92,7 +94,11 @@ class DescriptorProgram:
             if self.process.poll() is not None:
                 raise Wrong("a handler that waits for more", how_it_ended(self.process.returncode), CALLS)
             now = None if self.has_unread() else sorted(threads_of(self.process.pid))
-            if now and now == before and all(state == "S" and not any(it in where for it in TIMERS) for state, where, *_ in now):
+            if (
+                now
+                and now == before
+                and all(state == "S" and not any(it in where for it in TIMERS) for state, where, *_ in now)
+            ):
                 break
             if time.monotonic() > end:
                 raise Wrong("all that waits is read", f"it is not, after {self.settings.patience} seconds", CALLS)
@@ -180,7 +186,7 @@ class DescriptorHandling(Handling):
         self.give_message()
 
     def give_message(self):
-        """A turn: the program reads all that waits, also what comes as it wakes processors, which may fault anew."""
+        """A turn: the program reads all that waits, also what comes as it wakes processors, which may fault again."""
         before = self.guest.host.present()
         for _ in range(MOST_SLEEPS):
             self.program.run()
@@ -207,7 +213,8 @@ class DescriptorHandling(Handling):
             self.duties.see_put(page, "ok")
 
     def take_frames(self):
-        """What was sent while the channel was lost is lost with it, and so is what one thread still sends as another one takes Resume."""
+        """What was sent while the channel was lost is lost with it, and so is what one thread still sends as another
+        one takes Resume."""
         for frame in self.program.frames():
             is_late = self.duties.owes_report and frame[0] < self.duties.epoch
             if self.is_up and not is_late:

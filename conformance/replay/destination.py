@@ -63,7 +63,9 @@ class Destination(Node, nodes.Destination):
             if value != start or events:
                 raise Finding(f"an area of the package: {value} {events}")
         self.guest.host.register(MODE)
-        self.guest.states = [Woken((Load, Store)[len(command) - 2](*command)) if command else Idle() for command in commands]
+        self.guest.states = [
+            Woken((Load, Store)[len(command) - 2](*command)) if command else Idle() for command in commands
+        ]
 
     def put(self, page, data):
         self.guest.host.put(page, data)

@@ -1,11 +1,13 @@
 """Where a replay differs from the model: the sections and rows of docs/LINUX.md.
 
-A tag of LED says that the kernel's choice was led to the model's, so that the line is the same. A tag of KNOWN says that the line may be
-another, in the way that its test allows."""
+A tag of LED says that the kernel's choice was led to the model's, so that the line is the same. A tag of KNOWN says
+that the line may be another, in the way that its test allows."""
 
 import re
 
-CHOICES, MREMAP, OBJECT, NODES = "Choices of the model", "mremap", "The userfault object", "The two nodes of a migration"
+CHOICES, MREMAP, OBJECT, NODES = (
+    "Choices of the model", "mremap", "The userfault object", "The two nodes of a migration"
+)
 SECTIONS = (CHOICES, MREMAP, OBJECT, NODES)
 
 # Answered by a rule of the model alone.
@@ -18,15 +20,21 @@ LED = {
     "page-of-zeros": (CHOICES, "the page of zeros that a load makes present where nobody watches is removed"),
     "areas": (CHOICES, "one area of the model that is several in the kernel is moved, cut or grown by pieces"),
     "fault-of-each-thread": (OBJECT, "the message of a second thread for a page stays unread"),
-    "fault-taken-away": (OBJECT, "a message that the kernel took away as its thread was woken is read from the model's queue"),
+    "fault-taken-away": (
+        OBJECT, "a message that the kernel took away as its thread was woken is read from the model's queue"
+    ),
     "order-of-faults": (OBJECT, "messages of threads that slept before are read first"),
     "faults-read-first": (OBJECT, "unread faults are read before an event"),
-    "messages-of-mremap": (OBJECT, "REMAP is read at its place in the model's order, and UNMAP of the old place is left out"),
+    "messages-of-mremap": (
+        OBJECT, "REMAP is read at its place in the model's order, and UNMAP of the old place is left out"
+    ),
     "remove-of-each-area": (OBJECT, "the REMOVE messages of a dontneed are read as one"),
     "read-early": (OBJECT, "the messages of two calls are read at once, and handed out in the model's order"),
     "cleared-at-once": (OBJECT, "the messages of a dontneed are read at once, so that it clears in its step"),
     "sleeps-again": (OBJECT, "a thread that faults again before its retry is taken out of the kernel"),
-    "stopped-and-retried": (NODES, "a thread that sleeps on a page which reads otherwise now is taken out of the kernel"),
+    "stopped-and-retried": (
+        NODES, "a thread that sleeps on a page which reads otherwise now is taken out of the kernel"
+    ),
     "stopped-at-switch": (NODES, "a thread that sleeps at the switch is taken out of the kernel"),
     "cleared-late": (OBJECT, "with --late: a dontneed sleeps on its message, and clears once that was read"),
 }
@@ -66,7 +74,9 @@ def section(tag):
 
 def is_known(tags, model, kernel):
     """Whether two lines differ in a way that docs/LINUX.md has."""
-    (cpu, _, model_reply), (other, _, kernel_reply) = (line.partition(" ")[2].partition(" ") for line in (model, kernel))
+    (cpu, _, model_reply), (other, _, kernel_reply) = (
+        line.partition(" ")[2].partition(" ") for line in (model, kernel)
+    )
     same_cpu = cpu == other and model.startswith("cpu ") and kernel.startswith("cpu ")
     return same_cpu and any(tag in KNOWN and KNOWN[tag][2](model_reply, kernel_reply) for tag in tags)
 

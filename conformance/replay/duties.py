@@ -1,4 +1,5 @@
-"""The rules by which the calls of a handler are judged: what may be put where, and what is left to do once it asks for more."""
+"""The rules by which the calls of a handler are judged: what may be put where, and what is left to do once it asks for
+more."""
 
 from model.frames import copies, pages_in
 
@@ -11,7 +12,10 @@ TABLE = f"{HANDLER}: an owed table follows UNMAP, REMOVE and REMAP"
 WAKE = f"{HANDLER}: after an event call UFFDIO_WAKE for the range that is gone"
 INSTALL = f"{STEPS}, install: a copy is put where its page belongs now, and those who sleep there are woken"
 RESOLVE = f"{STEPS}, dact: an owed page is requested, any other missing page becomes zeros"
-AGAIN = f"{STEPS}, Errors of the calls: after EAGAIN read first and try again; docs/LINUX.md, The userfault object: until the call has gone on"
+AGAIN = (
+    f"{STEPS}, Errors of the calls: after EAGAIN read first and try again; docs/LINUX.md, The userfault object: until "
+    "the call has gone on"
+)
 STALE = f"{STEPS}, Stale faults: after EEXIST or ENOENT call UFFDIO_WAKE of the page"
 RESUME = f"{STEPS}, deliver of Resume: Recv says what is still needed, and open requests are repeated"
 END = f"{STEPS}, deliver of End: it sends Done"
@@ -27,9 +31,10 @@ def listed(pages):
 
 
 class Duties:
-    """owed: the origin of each owed page, as the messages that were read leave it. given: the bytes of each copy that the handler got, by origin
-    (None: zeros). to_come: the origins that the source may still send. requested: those asked for in this epoch. left: why a page is owed no more.
-    refused: the last errno of a call for a page. to_wake: pages that an errno says to wake."""
+    """owed: the origin of each owed page, as the messages that were read leave it. given: the bytes of each copy that
+    the handler got, by origin (None: zeros). to_come: the origins that the source may still send. requested: those
+    asked for in this epoch. left: why a page is owed no more. refused: the last errno of a call for a page. to_wake:
+    pages that an errno says to wake."""
 
     def __init__(self):
         self.owed, self.given, self.to_come, self.requested = {}, {}, set(), set()
@@ -126,7 +131,11 @@ class Duties:
     def take_report(self, state, owed):
         wanted = ("ended" if self.has_ended else "running", set(self.owed.values()))
         if not self.owes_report or (state, owed) != wanted:
-            raise Wrong(f"one Recv after a Resume: {wanted[0]}, owed {listed(wanted[1])}", f"{state}, owed {listed(owed)}", RESUME)
+            raise Wrong(
+                f"one Recv after a Resume: {wanted[0]}, owed {listed(wanted[1])}",
+                f"{state}, owed {listed(owed)}",
+                RESUME,
+            )
         self.owes_report, self.to_come = False, owed
 
     # ---- once the handler asks for more ----
@@ -163,4 +172,6 @@ class Duties:
         did = f"it sleeps at {name(page)}{self.last_errno(page)}: {self.why_not(page)}"
         if not meets(guest.host.registered(), page * PAGE, page * PAGE + PAGE):
             raise Wrong(f"cpu {cpu} is woken", did, WAKE)
-        raise Wrong(f"cpu {cpu} is woken", did, AGAIN if self.refused.get(page) == "EAGAIN" else WAKE if why else RESOLVE)
+        raise Wrong(
+            f"cpu {cpu} is woken", did, AGAIN if self.refused.get(page) == "EAGAIN" else WAKE if why else RESOLVE
+        )

@@ -12,4 +12,5 @@ class Finding(Exception):
 
 
 class Wrong(Exception):
-    """A handler under test broke a rule. The arguments: what was expected, what it did, and where the rule is written."""
+    """A handler under test broke a rule. The arguments: what was expected, what it did, and where the rule is
+    written."""

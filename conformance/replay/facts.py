@@ -39,7 +39,8 @@ def wrong_answer(settings, commands):
 
 
 def messages_of(host, count, patience):
-    """Up to `count` messages, those that come within some seconds: a thread queues its second one once its first was read."""
+    """Up to `count` messages, those that come within some seconds: a thread queues its second one once its first was
+    read."""
     found, end = [], time.monotonic() + patience
     while len(found) < count and time.monotonic() < end:
         said = host.ask("read")
@@ -51,8 +52,8 @@ def messages_of(host, count, patience):
 
 
 def two_blocks_grow(settings):
-    """Two processors grow a block each by mremap, which names no address: the second block goes where the first one was, and UNMAP of that
-    place is read behind the REMAP to it."""
+    """Two processors grow a block each by mremap, which names no address: the second block goes where the first one
+    was, and UNMAP of that place is read after the REMAP to it."""
     host = Host(settings, Record())
     try:
         host.must("open 0x4d")

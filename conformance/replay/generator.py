@@ -1,5 +1,6 @@
-"""Random scripts with a seed. The generator reads the answer to each line before it chooses the next one, so that it knows what sleeps, what is on
-a wire, and what has to be read: most lines do something. The same seed, profile and program make the same script."""
+"""Random scripts with a seed. The generator reads the answer to each line before it chooses the next one, so that it
+knows what sleeps, what is on a wire, and what must be read: most lines do something. The same seed, profile and
+program make the same script."""
 
 import random
 import subprocess
@@ -12,9 +13,10 @@ from .script import Load, Store, parse
 
 @dataclass(frozen=True)
 class Profile:
-    """Weights. commands: of loads and stores. calls: of map calls. moves: of mremap calls that move pages. pushes: of pushes without a request.
-    installs: of installs, for each arrival. switch: how soon the guest is switched. breaks: of lost channels. urgent, runs, pieces: whether these
-    lines stand in the script. odd: the share of lines that do not belong where they stand."""
+    """Weights. commands: of loads and stores. calls: of map calls. moves: of mremap calls that move pages. pushes: of
+    pushes without a request. installs: of installs, for each arrival. switch: how soon the guest is switched. breaks:
+    of lost channels. urgent, runs, pieces: whether these lines are in the script. odd: the share of lines that do not
+    belong where they are."""
 
     commands: float = 6
     calls: float = 1
@@ -42,7 +44,8 @@ PROFILES = {
     "all": Profile(calls=3, breaks=0.06, urgent=True, runs=True, pieces=True, odd=0.04),
 }
 ANY_STEP = (
-    "start round send sread sact switch deliver back udeliver dread dact install serve end break resume progress retry@ "
+    "start round send sread sact switch deliver back udeliver dread dact install serve end break resume progress "
+    "retry@ "
     "notice|source notice|dest sendrun|3 push|0x10000 upush|0x11000 push|0x12000|9 deliver|13 back|5"
 ).split()
 
@@ -165,7 +168,10 @@ class Generator:
         yield min(self.requests, 3) * 2 + 0.03, "serve"
         words = ("push", "upush") if self.profile.urgent else ("push",)
         for page in self.asked[:1] or self.random.sample(sorted(self.owed), min(1, len(self.owed))):
-            yield 1.5 if self.asked or self.is_finishing else self.profile.pushes, f"{self.random.choice(words)} 0x{page * PAGE:x}"
+            yield (
+                1.5 if self.asked or self.is_finishing else self.profile.pushes,
+                f"{self.random.choice(words)} 0x{page * PAGE:x}",
+            )
         yield 0.02 if self.owed else 1.0 if self.is_finishing else 0.1, "end"
 
     def is_done(self):

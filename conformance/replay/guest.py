@@ -1,8 +1,8 @@
 """A guest on one host: its processors, and the messages that its userfaultfd has.
 
-The model has one queue of unread faults, with one message for each page and kind. A kernel has one for each thread that sleeps, and
-takes it away once the thread is woken. Here the model's queue (`faults`) stands beside the kernel's (`unread`), and a read of the model
-reads the kernel's messages up to the one that it needs."""
+The model has one queue of unread faults, with one message for each page and kind. A kernel has one for each thread that
+sleeps, and takes it away once the thread is woken. Here the model's queue (`faults`) is kept beside the kernel's
+(`unread`), and a read of the model reads the kernel's messages up to the one that it needs."""
 
 from collections import deque
 from typing import Any, NamedTuple
@@ -27,7 +27,7 @@ class Asleep(NamedTuple):
 
 
 class Woken(NamedTuple):
-    """A load or store that has to be made again by a retry."""
+    """A load or store that must be made again by a retry."""
 
     command: Any
 
@@ -71,8 +71,8 @@ def event_of(words):
 
 
 class Call:
-    """A map call in progress. wanted: its messages by the model's rules, in the model's order. value: what it will return; None where it has
-    returned, and the kernel has none of its messages any more."""
+    """A map call in progress. wanted: its messages by the model's rules, in the model's order. value: what it will
+    return; None where it has returned, and the kernel has none of its messages any more."""
 
     def __init__(self, cpu, made):
         self.cpu, self.reply, self.wanted = cpu, made.reply, list(made.messages)
@@ -131,7 +131,8 @@ class Guest:
             self.read_fault()
 
     def read_fault(self):
-        """The kernel's next message is that of the thread which has slept longest of those whose message was not read."""
+        """The kernel's next message is that of the thread which has slept longest of those whose message was not
+        read."""
         self.record.check("fault message compared with its cause")
         fault = self.unread.pop(0)
         words = self.host.ask("read").split()
@@ -141,7 +142,8 @@ class Guest:
             raise Finding(f"message {' '.join(words)}, and not {' '.join(wanted)}")
 
     def next_fault(self):
-        """The model's next fault, and the kernel's messages up to it. The kernel has none where the thread was woken before."""
+        """The model's next fault, and the kernel's messages up to it. The kernel has none where the thread was woken
+        before."""
         page, is_protected = self.faults.popleft()
         found = [at for at, fault in enumerate(self.unread) if (fault.page, fault.is_protected) == (page, is_protected)]
         if not found:
@@ -162,14 +164,16 @@ class Guest:
 
     def sleepers(self, start, end):
         return [
-            cpu for cpu, state in enumerate(self.states) if isinstance(state, Asleep) and start <= state.command.addr < end
+            cpu
+            for cpu, state in enumerate(self.states)
+            if isinstance(state, Asleep) and start <= state.command.addr < end
         ]
 
     def sleepers_of(self, page):
         return self.sleepers(page * PAGE, page * PAGE + PAGE)
 
     def see_woken(self, cpus):
-        """The ioctl before this has woken these: each of them has to run, up to where its access would take effect."""
+        """The ioctl before this has woken these: each of them must run, up to where its access would take effect."""
         for cpu in cpus:
             self.record.check("thread that an ioctl woke")
             said = self.not_stuck(self.host.ask(f"await {cpu}"), f"cpu {cpu} was to be woken")
@@ -192,8 +196,8 @@ class Guest:
         self.see_woken(cpus)
 
     def wake_gone(self, start, end):
-        """Those asleep in a range that is gone or cleared, by UFFDIO_WAKE. Where something is mapped a thread would make its page present
-        before its retry: it is stopped instead."""
+        """Those asleep in a range that is gone or cleared, by UFFDIO_WAKE. Where something is mapped a thread would
+        make its page present before its retry: it is stopped instead."""
         cpus = self.sleepers(start, end)
         if not cpus:
             return
@@ -256,11 +260,12 @@ class Guest:
         return int(self.not_stuck(said, command.text()).split()[1]), events
 
     def call(self, cpu, command, wanted, in_order=True):
-        """Makes a call of which the messages have to be `wanted`. It is left asleep in the kernel on the first one, and None is answered,
-        where the order of the kernel's messages is the model's (`in_order`). Else they are read at once: what it returns, and they."""
+        """Makes a call of which the messages must be `wanted`. It is left asleep in the kernel on the first one, and
+        None is answered, where the order of the kernel's messages is the model's (`in_order`). Else they are read at
+        once: what it returns, and they."""
         several = any(event.kind != "unmap" for event in wanted)
         asleep = [call for call, _ in self.events if call.is_in_kernel()]
-        # Of two calls that sleep at once, the kernel has the second message of one behind the first of the other.
+        # Of two calls that sleep at once, the kernel has the second message of one after the first of the other.
         mixed = asleep and (several or any(call.has_several for call in asleep))
         if not wanted or self.settings.eager or not in_order or mixed:
             return self.call_through(cpu, command)
@@ -283,7 +288,8 @@ class Guest:
             self.record.tag("read-early")
 
     def next_event(self):
-        """The model's next event; of a call in the kernel it is read there. Answers (event, the call that ends with it)."""
+        """The model's next event; of a call in the kernel it is read there. Answers (event, the call that ends with
+        it)."""
         call, event = self.events.popleft()
         if call.is_in_kernel():
             self.read_in_kernel(call, event)
@@ -315,7 +321,7 @@ class Guest:
 
 
 def has_wrong_form(command):
-    """Whether the model answers `bad access`."""
+    """Whether the model's reply is `bad access`."""
     if command.width not in WIDTHS or command.addr % command.width:
         return True
     return not isinstance(command, Load) and command.width < 8 and command.value >> 8 * command.width != 0

@@ -1,8 +1,9 @@
 """Judges a handler of a user: runs the destination of a script on the kernel, with a program as its handler.
 
-The model runs the script, the source and the wires (model_run.py). Here the guest's commands are made once it runs at the destination, and the
-program gets the messages of its userfaultfd and the frames from the Package on. It may be ahead of the model, which resolves a fault or installs a
-copy in steps of its own; it has to be no later. So a processor that sleeps in the model may be awake here: its command is then made at its retry.
+The model runs the script, the source and the wires (model_run.py). Here the guest's commands are made once it runs at
+the destination, and the program gets the messages of its userfaultfd and the frames from the Package on. It may be
+ahead of the model, which resolves a fault or installs a copy in steps of its own; it must be no later. So a processor
+that sleeps in the model may be awake here: its command is then made at its retry.
 """
 
 from collections import deque
@@ -24,7 +25,7 @@ from .tested_program import CALLS, TestedProgram
 from .world import looked_at
 
 FLAT = "docs/PROVED.md, world: the guest sees one flat memory"
-# The most calls of a handler for one message or frame, and the most times that a processor may sleep anew.
+# The most calls of a handler for one message or frame, and the most times that a processor may sleep again.
 MOST_CALLS, MOST_SLEEPS = 5000, 200
 
 
@@ -55,7 +56,8 @@ def parsed(line):
 
 
 class Handling:
-    """arrivals: the copies that the destination has taken and the model has not installed, as [origin, frame, whether the handler has it]."""
+    """arrivals: the copies that the destination has taken and the model has not installed, as [origin, frame, whether
+    the handler has it]."""
 
     guest_class = TestedGuest
 
@@ -64,8 +66,12 @@ class Handling:
         self.result = Result(job.name)
         self.guest = self.program = self.line = None
         self.kept, self.arrivals, self.is_up = {}, deque(), True
-        self.calls = {"read": self.read, "copy": self.copy, "zeropage": self.zeropage, "wake": self.wake, "send": self.send}
-        self.words = {"cpu": self.issue, "retry": self.retry, "dact": self.act, "install": self.install, "break": self.break_link}
+        self.calls = {
+            "read": self.read, "copy": self.copy, "zeropage": self.zeropage, "wake": self.wake, "send": self.send
+        }
+        self.words = {
+            "cpu": self.issue, "retry": self.retry, "dact": self.act, "install": self.install, "break": self.break_link
+        }
 
     # ---- a script ----
 
@@ -204,7 +210,7 @@ class Handling:
         self.turn(text)
 
     def give_messages(self):
-        """All that wait. A processor that is woken on a page which is still owed sleeps anew."""
+        """All that wait. A processor that is woken on a page which is still owed sleeps again."""
         for _ in self.guest.unread():
             self.give_message()
         for _ in range(MOST_SLEEPS):
@@ -291,7 +297,8 @@ class Handling:
             raise Finding(f"{command.text()} does not sleep on a page that is missing")
 
     def answered(self, cpu, command):
-        """The reply to an access that the model answers: it may sleep here until the handler has read its message, and no longer."""
+        """The reply to an access that the model answers: it may sleep here until the handler has read its message, and
+        no longer."""
         for _ in range(MOST_SLEEPS):
             self.resolve(cpu)
             said = self.guest.make(cpu, command)
@@ -322,7 +329,7 @@ class Handling:
     # ---- the end ----
 
     def finish(self):
-        """The handler gets all that is left; then the memory has to be the model's."""
+        """The handler gets all that is left; then the memory must be the model's."""
         self.give_arrivals()
         self.give_messages()
         self.program.end()

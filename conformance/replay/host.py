@@ -63,7 +63,8 @@ class Host:
             raise Finding(f"{line[:100]} -> {said}")
 
     def close(self):
-        """Ends the process, and does not wait for it: that takes long on a busy machine, since each of its threads has to run once more."""
+        """Ends the process, and does not wait for it: that takes long on a busy machine, since each of its threads has
+        to run once more."""
         try:
             self.process.stdin.write(b"quit\n")
             self.process.stdin.close()
@@ -123,7 +124,8 @@ class Host:
         return None if said == "zero" else bytes.fromhex(said)
 
     def put(self, page, data):
-        """Makes a missing page present, by UFFDIO_COPY or, for zeros, by UFFDIO_ZEROPAGE. Whoever sleeps on it is woken."""
+        """Makes a missing page present, by UFFDIO_COPY or, for zeros, by UFFDIO_ZEROPAGE. A thread that sleeps on it is
+        woken."""
         self.must(f"copy {name(page)} 0 {data.hex()}" if data else f"zeropage {name(page)} {PAGE} 0")
 
     def register(self, mode):

@@ -67,7 +67,8 @@ def refused_userfault(host):
 
 
 def missing(host, any_kernel=False):
-    """The sentence for a machine that cannot replay; None where it can. The host that comes with the repository is built."""
+    """The sentence for a machine that cannot replay; None where it can. The host that comes with the repository is
+    built."""
     if host == [str(HOST)]:
         lacking = lack(any_kernel)
         if lacking:

@@ -1,6 +1,7 @@
 """Map calls on a guest: what the kernel answers, with the choices that the model makes (docs/LINUX.md).
 
-A call that the model refuses is made on a copy of the process, so that a kernel which does not refuse it changes nothing here."""
+A call that the model refuses is made on a copy of the process, so that a kernel which does not refuse it changes
+nothing here."""
 
 from typing import NamedTuple, Optional
 
@@ -12,8 +13,9 @@ from .script import Dontneed, Mmap, Mremap, Munmap
 
 
 class Made(NamedTuple):
-    """A map call that was made. messages: those unread by the model's rules, in its order. value: what the call will return where it sleeps
-    in the kernel. is_entered: whether it enters the transcript; what was answered by a copy alone does not."""
+    """A map call that was made. messages: those unread by the model's rules, in its order. value: what the call will
+    return where it sleeps in the kernel. is_entered: whether it enters the transcript; what was answered by a copy
+    alone does not."""
 
     reply: str
     messages: tuple = ()
@@ -66,7 +68,7 @@ class MapCall:
         return Made(found, is_entered=found == expected)
 
     def for_real(self, command, wanted, value, in_order=True):
-        """Makes the call: it has to return `value`, or an errno, and to have these messages."""
+        """Makes the call: it must return `value`, or an errno, and have these messages."""
         returned = self.guest.call(self.cpu, command, wanted, in_order)
         if returned is None:
             return Made(self.reply(value), tuple(wanted), value)
@@ -136,13 +138,16 @@ class DontneedCall(MapCall):
         return self.clear(command.addr, min(end, HIGH), end > HIGH)
 
     def clear(self, start, end, has_hole):
-        # Behind HIGH there is a page of the host's own that is mapped, and nothing behind that.
+        # After HIGH there is a page of the host's own that is mapped, and nothing after that.
         made = Dontneed(start, end - start + (2 * PAGE if has_hole else 0))
         parts = cut(self.registered, start, end)
         if self.guest.settings.late and parts == [(start, end)] and self.may_stay():
             return self.clear_late(made, end, has_hole)
         value, events = self.guest.call_through(self.cpu, made)
-        if any(event.kind != "remove" for event in events) or pages_of(event[1:3] for event in events) != pages_of(parts):
+        if (
+            any(event.kind != "remove" for event in events)
+            or pages_of(event[1:3] for event in events) != pages_of(parts)
+        ):
             raise Finding(f"messages {events}, registered {parts}")
         whole = [Event("remove", start, end)]
         if events:
@@ -197,7 +202,12 @@ class MremapCall(MapCall):
     def wrong_form(self):
         command, target = self.command, self.command.target
         is_fixed = target is not None
-        wrong = command.addr % PAGE or not command.old or not command.new or is_fixed and (not command.may_move or target % PAGE)
+        wrong = (
+            command.addr % PAGE
+            or not command.old
+            or not command.new
+            or is_fixed and (not command.may_move or target % PAGE)
+        )
         if not wrong and is_fixed and (target < LOW or target + self.new > HIGH):
             if target < LOW or target + self.new < PROCESS_END:
                 return self.model_only("refused EINVAL")
@@ -309,7 +319,9 @@ class MremapCall(MapCall):
             gone += self.guest.call_through(self.cpu, Munmap(self.kept_end, self.end - self.kept_end))[1]
         if gone != wanted:
             raise Finding(f"messages {gone}, by the model {wanted}")
-        pieces = [piece for part in cut(self.parts, self.start, self.kept_end) for piece in self.move_piece(part, target)]
+        pieces = [
+            piece for part in cut(self.parts, self.start, self.kept_end) for piece in self.move_piece(part, target)
+        ]
         if self.new > self.old:
             self.add_behind(target + self.old)
         found = pages_of(event.left_range() for event in pieces)

@@ -17,8 +17,8 @@ PUTS = {"started": 1, "sent": 1, "switched": 2, "end": 1, "resumed": 1}
 
 
 class Line(NamedTuple):
-    """A line of a script. reply: that of the command which takes effect in it, None where none does or the run ends before it is said.
-    frame: what the destination takes in it, as (epoch, name, fields)."""
+    """A line of a script. reply: that of the command which takes effect in it, None where none does or the run ends
+    before it is said. frame: what the destination takes in it, as (epoch, name, fields)."""
 
     number: int
     text: str

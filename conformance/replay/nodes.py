@@ -1,4 +1,5 @@
-"""What both nodes of a migration do on a host: they make commands, read messages, resolve faults, and receive frames."""
+"""What both nodes of a migration do on a host: they make commands, read messages, resolve faults, and receive
+frames."""
 
 from collections import deque
 
@@ -44,7 +45,8 @@ class Node:
     # ---- frames ----
 
     def receive(self, wire, count, take):
-        """This number of bytes of a wire arrives, and the frame that they complete is taken. No frame of a world is refused."""
+        """This number of bytes of a wire arrives, and the frame that they complete is taken. No frame of a world is
+        refused."""
         frame = wire.arrive(count)
         if not frame:
             return f"moved {count}"
@@ -69,8 +71,8 @@ class Node:
         return f"read {event.text()}{answered}", event
 
     def require_unchanging(self, ioctl=None):
-        """A step that installs, protects or sends is refused while an event is unread. Where the kernel itself has one, the step's ioctl is
-        made, and has to be EAGAIN."""
+        """A step that installs, protects or sends is refused while an event is unread. Where the kernel itself has one,
+        the step's ioctl is made, and must be EAGAIN."""
         guest = self.guest
         if not guest or not guest.events:
             return

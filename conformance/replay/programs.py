@@ -34,20 +34,48 @@ def options(description, tested=None):
     if tested:
         parser.add_argument("tested", metavar="PROGRAM", type=read.command, help=tested)
     parser.add_argument("scripts", nargs="*", default=[], metavar="SCRIPT", type=pathlib.Path)
-    parser.add_argument("--program", metavar="PATH", type=read.command, help="the postmig that answers (the launcher, once ./postmig prove has built it)")
-    parser.add_argument("--host", metavar="PROGRAM", type=read.command, help="a program that takes the host protocol, instead of the one of this folder")
-    parser.add_argument("--cpus", type=read.number(1, 16), metavar="N", help="processors of a guest (by the script's name, NAME.cpusN.script, else 2)")
-    parser.add_argument("--jobs", type=read.number(1, 256), default=min(4, os.cpu_count() or 1), metavar="N", help="scripts at a time")
+    parser.add_argument(
+        "--program",
+        metavar="PATH",
+        type=read.command,
+        help="the postmig that answers (the launcher, once ./postmig prove has built it)",
+    )
+    parser.add_argument(
+        "--host",
+        metavar="PROGRAM",
+        type=read.command,
+        help="a program that takes the host protocol, instead of the one of this folder",
+    )
+    parser.add_argument(
+        "--cpus",
+        type=read.number(1, 16),
+        metavar="N",
+        help="processors of a guest (by the script's name, NAME.cpusN.script, else 2)",
+    )
+    parser.add_argument(
+        "--jobs", type=read.number(1, 256), default=min(4, os.cpu_count() or 1), metavar="N", help="scripts at a time"
+    )
     parser.add_argument("--any-kernel", action="store_true", help="also on a kernel before 6.17")
-    parser.add_argument("--minimise", action="store_true", help="leaves out lines of a script with something unexpected")
+    parser.add_argument(
+        "--minimise", action="store_true", help="leaves out lines of a script with something unexpected"
+    )
     parser.add_argument("--trace", action="store_true", help="prints each line, and the host's commands for it")
-    parser.add_argument("--json", action="store_true", help="prints each finding, and then the counts, as a JSON object in a line of its own")
+    parser.add_argument(
+        "--json",
+        action="store_true",
+        help="prints each finding, and then the counts, as a JSON object in a line of its own",
+    )
     return parser
 
 
 def comparing_options(description):
     parser = options(description)
-    parser.add_argument("--impl", metavar="PROGRAM", type=read.command, help="compares this program, which reads a script and writes its lines")
+    parser.add_argument(
+        "--impl",
+        metavar="PROGRAM",
+        type=read.command,
+        help="compares this program, which reads a script and writes its lines",
+    )
     parser.add_argument("--eager", action="store_true", help="reads each fault as soon as its thread sleeps")
     parser.add_argument("--late", action="store_true", help="leaves a dontneed asleep on its message, as a kernel does")
     parser.add_argument("--show", action="store_true", help="prints the known differences too")
@@ -56,13 +84,15 @@ def comparing_options(description):
 
 @functools.cache
 def has_proved():
-    """Whether the launcher has a proved program of the sources as they are: it would build one without proof at each call."""
+    """Whether the launcher has a proved program of the sources as they are: it would build one without proof at each
+    call."""
     said = subprocess.run([LAUNCHER, "--version"], capture_output=True, text=True).stdout
     return said.rstrip().endswith(", proved)")
 
 
 def program_of(arguments):
-    """The words that start the postmig that answers, or None. A program that is named and is none ends this one with status 1."""
+    """The words that start the postmig that answers, or None. A program that is named and is none ends this one with
+    status 1."""
     if not arguments.program:
         return [str(LAUNCHER)] if has_proved() else None
     if not is_postmig(arguments.program):
@@ -71,7 +101,8 @@ def program_of(arguments):
 
 
 def started_by(program):
-    """The words that start what a launcher starts, which ends as it: so its checks are made once, and not at each call."""
+    """The words that start what a launcher starts, which ends as it: so its checks are made once, and not at each
+    call."""
     with subprocess.Popen([*program, "run"], stdin=subprocess.PIPE, stdout=subprocess.PIPE) as process:
         process.stdin.write(b"progress\n")
         process.stdin.flush()
@@ -137,7 +168,9 @@ def job_of(arguments, path):
     if not beside.exists() and not program:
         require_program(arguments)
     answers = beside.read_text().splitlines() if beside.exists() else None
-    return Job(str(path), data, settings, answers, None, program, implementation_of(arguments), is_stored=beside.exists())
+    return Job(
+        str(path), data, settings, answers, None, program, implementation_of(arguments), is_stored=beside.exists()
+    )
 
 
 def implementation_of(arguments):
@@ -166,7 +199,10 @@ def show(arguments, result, kinds, fields=("where", "line", "model", "other")):
     for kind, found in kinds:
         for entry in found:
             if arguments.json:
-                print(json.dumps({"finding": kind.lower(), "script": name, **dict(zip(fields, map(str, entry)))}), flush=True)
+                print(
+                    json.dumps({"finding": kind.lower(), "script": name, **dict(zip(fields, map(str, entry)))}),
+                    flush=True,
+                )
             else:
                 print(kind, name, *entry, sep=" | ", flush=True)
 
@@ -175,7 +211,15 @@ def counts_of(total, differing):
     """The last line of --json."""
     lines, found = total.totals["lines"], dict(table.figures_of(total))
     kinds = {kind: total.totals[kind] for kind in table.KINDS if kind in total.totals}
-    return json.dumps({"system": headline(), "lines": lines, "scripts with findings": len(differing), "kinds": kinds, "looked at": found})
+    return json.dumps(
+        {
+            "system": headline(),
+            "lines": lines,
+            "scripts with findings": len(differing),
+            "kinds": kinds,
+            "looked at": found,
+        }
+    )
 
 
 def compare_all(arguments, jobs):
@@ -191,7 +235,10 @@ def compare_all(arguments, jobs):
     else:
         print(headline())
         print(*table.lines(total), "", *table.beside(total), sep="\n")
-        print(f"{total.totals['lines']:,} lines in {time.time() - begun:.0f} s, {len(differing)} scripts with something unexpected")
+        print(
+            f"{total.totals['lines']:,} lines in {time.time() - begun:.0f} s, {len(differing)} scripts with something "
+            "unexpected"
+        )
     if getattr(arguments, "write", False):
         write_page(total)
     if not total.totals["lines"]:
@@ -233,13 +280,24 @@ def minimise_all(arguments, jobs, differing):
     for job in jobs:
         if job.name in differing:
             written(job)
-            print(f"minimised {job.name}", *minimise(job.data, functools.partial(differs, job)), sep="\n    ", flush=True)
+            print(
+                f"minimised {job.name}", *minimise(job.data, functools.partial(differs, job)), sep="\n    ", flush=True
+            )
 
 
 def generating_options(parser):
-    parser.add_argument("--profiles", metavar="A,B", type=read.profiles(PROFILES), help=f"random scripts of these profiles: {', '.join(PROFILES)}; or `every`")
-    parser.add_argument("--seeds", metavar="FIRST:LAST", type=read.seeds, default="1:20", help="with these seeds (1:20)")
-    parser.add_argument("--lines", "--steps", type=read.number(1, 1_000_000), default=200, metavar="N", help="of at most N lines (200)")
+    parser.add_argument(
+        "--profiles",
+        metavar="A,B",
+        type=read.profiles(PROFILES),
+        help=f"random scripts of these profiles: {', '.join(PROFILES)}; or `every`",
+    )
+    parser.add_argument(
+        "--seeds", metavar="FIRST:LAST", type=read.seeds, default="1:20", help="with these seeds (1:20)"
+    )
+    parser.add_argument(
+        "--lines", "--steps", type=read.number(1, 1_000_000), default=200, metavar="N", help="of at most N lines (200)"
+    )
     return parser
 
 
@@ -256,11 +314,20 @@ def random_jobs(arguments):
         for seed in arguments.seeds:
             settings = settings_of(arguments, cpus_of_seed(seed))
             name = f"{profile}/{seed}.cpus{settings.cpus}.script"
-            yield Job(name, None, settings, None, None, program, implementation_of(arguments), (seed, profile, arguments.lines))
+            yield Job(
+                name,
+                None,
+                settings,
+                None,
+                None,
+                program,
+                implementation_of(arguments),
+                (seed, profile, arguments.lines),
+            )
 
 
 def named_jobs(arguments):
-    """Scripts of which the program gives the answers, also where some stand beside them."""
+    """Scripts of which the program gives the answers, also where some are beside them."""
     program = require_program(arguments)
     for path in arguments.scripts:
         settings = settings_of(arguments, cpus_of(path))

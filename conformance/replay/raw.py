@@ -1,7 +1,8 @@
-"""Replays with nothing arranged. The lines are then not the model's; what is asked is whether the guest saw one flat memory.
+"""Replays with nothing arranged. The lines are then not the model's; what is asked is whether the guest saw one flat
+memory.
 
-The commands that took effect, and loads of all memory at the end, are given to `postmig check`. Where they are not a flat run, the other orders of
-the calls that were in progress at the same time are tried."""
+The commands that took effect, and loads of all memory at the end, are given to `postmig check`. Where they are not a
+flat run, the other orders of the calls that were in progress at the same time are tried."""
 
 from collections import Counter
 from dataclasses import dataclass, field
@@ -17,7 +18,8 @@ MOST_ORDERS = 400
 
 @dataclass
 class RawResult:
-    """said: each line with its answer. differing: (entry that no flat run has, what `check` says, how many orders were tried)."""
+    """said: each line with its answer. differing: (entry that no flat run has, what `check` says, how many orders were
+    tried)."""
 
     name: str
     totals: Counter = field(default_factory=Counter)
@@ -43,7 +45,7 @@ def groups_of(log):
 
 
 def ways(items):
-    """The orders of entries in which none stands before one that ended before it began: at most MOST_ORDERS."""
+    """The orders of entries in which none comes before one that ended before it began: at most MOST_ORDERS."""
     found, open_ways = [], [((), tuple(items))]
     while open_ways and len(found) < MOST_ORDERS:
         done, rest = open_ways.pop()

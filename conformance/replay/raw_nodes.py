@@ -1,5 +1,5 @@
-"""Nodes of which nothing is arranged: each message stays in the kernel until a step reads it, in the kernel's order, and a call ends when the
-kernel ends it."""
+"""Nodes of which nothing is arranged: each message stays in the kernel until a step reads it, in the kernel's order,
+and a call ends when the kernel ends it."""
 
 from dataclasses import dataclass
 from typing import Any
@@ -17,8 +17,8 @@ from .world import World
 
 @dataclass
 class LogEntry:
-    """A command that took effect: the steps in which it began and ended, and its place in the transcript. A map call has its place where it was made,
-    and a dontneed where it ended, since the kernel clears only then."""
+    """A command that took effect: the steps in which it began and ended, and its place in the transcript. A map call
+    has its place where it was made, and a dontneed where it ended, since the kernel clears only then."""
 
     first: int
     last: int
@@ -65,7 +65,7 @@ class RawGuest(Guest):
 
 
 class RawNode:
-    """old_places: with `skip_old`, the UNMAPs to come that every REMAP has behind it."""
+    """old_places: with `skip_old`, the UNMAPs to come that every REMAP has after it."""
 
     old_places = ()
 
@@ -147,7 +147,8 @@ class RawSource(RawNode, Source):
 
 class RawDestination(RawNode, Destination):
     def install(self):
-        """A table that follows the messages may hold a page where nothing is registered any more: UFFDIO_COPY is ENOENT there."""
+        """A table that follows the messages may hold a page where nothing is registered any more: UFFDIO_COPY is ENOENT
+        there."""
         if self.has_run and self.arrivals and not self.guest.calls():
             origin = self.arrivals[0][0]
             page = next((page for page, other in self.owed.items() if other == origin), None)
@@ -212,5 +213,9 @@ class RawWorld(World):
             named.update((command.addr // PAGE * PAGE, (getattr(command, "target", 0) or 0) // PAGE * PAGE))
             if reply.startswith("at "):
                 named.add(int(reply[5:], 16))
-        free = [addr for addr in sorted(named) if 0x10000 <= addr < HIGH and not meets([area[:2] for area in areas], addr, addr + 1)]
+        free = [
+            addr
+            for addr in sorted(named)
+            if 0x10000 <= addr < HIGH and not meets([area[:2] for area in areas], addr, addr + 1)
+        ]
         return [f"0 load 0x{addr:x} 8 => segv unmapped" for addr in free]

@@ -1,6 +1,7 @@
 """The lines of a script: docs/SCRIPT.md.
 
-A command of a processor is one of the classes below. Its text is that of a script, of a transcript and of the host protocol alike."""
+A command of a processor is one of the classes below. Its text is that of a script, of a transcript and of the host
+protocol alike."""
 
 from dataclasses import dataclass
 from typing import NamedTuple, Optional
@@ -10,7 +11,10 @@ from .pages import HIGH, PAGE
 
 LONGEST_LINE = 256
 MOST_IN_A_RUN = 64
-PLAIN = ("start", "round", "send", "sread", "sact", "switch", "dread", "dact", "install", "serve", "end", "break", "resume", "progress")
+PLAIN = (
+    "start", "round", "send", "sread", "sact", "switch", "dread", "dact", "install", "serve", "end", "break", "resume",
+    "progress",
+)
 ALL_BYTES = 1 << 64
 
 
@@ -80,7 +84,7 @@ class Dontneed:
 
 
 class Step(NamedTuple):
-    """A line that is a step: its first word, and what stands behind it."""
+    """A line that is a step: its first word, and what follows it."""
 
     word: str
     arguments: tuple = ()

@@ -10,9 +10,9 @@ HOST = FOLDER / "out" / "host"
 
 @dataclass
 class Settings:
-    """host: the words that start a host. eager: each fault is read as soon as its thread sleeps. late: a dontneed is left asleep
-    on its message. trace: each command of a host is printed. patience: the seconds that a host may take for an answer.
-    serial, skip_old: of raw.py. descriptor: of handler, whose program gets a descriptor."""
+    """host: the words that start a host. eager: each fault is read as soon as its thread sleeps. late: a dontneed is
+    left asleep on its message. trace: each command of a host is printed. patience: the seconds that a host may take for
+    an answer. serial, skip_old: of raw.py. descriptor: of handler, whose program gets a descriptor."""
 
     cpus: int = 2
     host: list = field(default_factory=lambda: [str(HOST)])

@@ -1,6 +1,8 @@
-"""A host without a kernel: the memory of a destination and its userfault object, as Linux does what conformance/handler asks of a host.
+"""A host without a kernel: the memory of a destination and its userfault object, as Linux does what conformance/handler
+asks of a host.
 
-It has the missing mode alone, and one map call at a time. A map call of a form that the model refuses is refused as the model does."""
+It has the missing mode alone, and one map call at a time. A map call of a form that the model refuses is refused as the
+model does."""
 
 from .pages import HIGH, LOW, MAX_PAGES, PAGE, PROCESS_END, rounded
 from .script import Dontneed, Load, Mmap, Mremap, Munmap
@@ -16,8 +18,8 @@ class Sleeper:
 
 
 class Memory:
-    """By page: protections of what is mapped, modes of what is registered, bytes of what is present. events: the unread messages of the call
-    that waits, each with the range that is cleared once it is read."""
+    """By page: protections of what is mapped, modes of what is registered, bytes of what is present. events: the unread
+    messages of the call that waits, each with the range that is cleared once it is read."""
 
     def __init__(self):
         self.protections, self.modes, self.bytes = {}, {}, {}
@@ -104,7 +106,10 @@ class Memory:
         old, target = self.pages(call.addr, call.old), call.target
         if call.addr % PAGE or not call.old or not call.new:
             return EINVAL
-        if target is not None and (not call.may_move or target % PAGE or target < LOW or target + rounded(call.new) > HIGH):
+        if (
+            target is not None
+            and (not call.may_move or target % PAGE or target < LOW or target + rounded(call.new) > HIGH)
+        ):
             return EINVAL
         if target is not None and target < call.addr + rounded(call.old) and call.addr < target + rounded(call.new):
             return EINVAL
@@ -174,7 +179,9 @@ class SimulatedHost:
 
     def store(self, command):
         data = self.memory.bytes.setdefault(command.addr // PAGE, bytearray(PAGE))
-        data[command.addr % PAGE : command.addr % PAGE + command.width] = command.value.to_bytes(command.width, "little")
+        data[command.addr % PAGE : command.addr % PAGE + command.width] = command.value.to_bytes(
+            command.width, "little"
+        )
 
     def make(self, cpu, command):
         if hasattr(command, "width"):
@@ -189,7 +196,7 @@ class SimulatedHost:
         return "blocked"
 
     def wake(self, start, end):
-        """Who sleeps there runs, up to where its access takes effect, or sleeps anew."""
+        """Who sleeps there runs, up to where its access takes effect, or sleeps again."""
         for cpu in [cpu for cpu, it in self.sleepers.items() if start <= it.command.addr < end]:
             command = self.sleepers.pop(cpu).command
             self.order = [other for other in self.order if other != cpu]

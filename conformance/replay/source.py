@@ -41,8 +41,14 @@ class Source(Node, nodes.Source):
         return self.guest.host.page(page)
 
     def package(self):
-        areas = [(start // PAGE, (end - start) // PAGE, PROTECTIONS.index(protection)) for start, end, protection in self.guest.host.areas()]
-        return areas, [astuple(state.command) if isinstance(state, (Asleep, Woken)) else () for state in self.states_at_switch]
+        areas = [
+            (start // PAGE, (end - start) // PAGE, PROTECTIONS.index(protection))
+            for start, end, protection in self.guest.host.areas()
+        ]
+        return (
+            areas,
+            [astuple(state.command) if isinstance(state, (Asleep, Woken)) else () for state in self.states_at_switch],
+        )
 
     def release(self):
         super().release()
@@ -57,7 +63,7 @@ class Source(Node, nodes.Source):
     # ---- pre-copy ----
 
     def check_clean(self):
-        """A clean page has to be protected in the kernel."""
+        """A clean page must be protected in the kernel."""
         for page in self.clean:
             self.record.check("clean page that is protected")
             if not self.guest.host.is_protected(page):
@@ -152,7 +158,7 @@ class Source(Node, nodes.Source):
         return self.make_switch(discarded, owed)
 
     def stop_processors(self):
-        """Whoever sleeps in the kernel leaves the guest."""
+        """A thread that sleeps in the kernel leaves the guest."""
         for cpu, state in enumerate(self.guest.states):
             if isinstance(state, Asleep):
                 self.guest.kick(cpu)

@@ -19,8 +19,8 @@ def of_tag(counts, tag):
 
 
 def rows(result):
-    """(title, counts, example) of each row; a section has no counts. A line of a script with two tags counts in both of their rows, and once in
-    the last one."""
+    """(title, counts, example) of each row; a section has no counts. A line of a script with two tags counts in both of
+    their rows, and once in the last one."""
     yield "Nothing differs", of_tag(result.counts, None), ""
     tags = {tag for tag, _ in result.counts if tag in LED or tag in KNOWN}
     for title in SECTIONS:
@@ -55,15 +55,7 @@ def beside(result):
 
 
 def of_page(result):
-    """A list for docs/LINUX.md: what the lines were, by section, and what was looked at beside them. The last section has all kinds."""
-    sections = []
-    for title, counts, _ in rows(result):
-        is_tag, is_sum = title.startswith(" "), title == "All"
-        if not is_tag:
-            sections.append((f"All {sum(counts.values()):,} lines" if is_sum else title, []))
-        if counts is not None:
-            kinds = [kind for kind in KINDS if counts[kind] or is_sum]
-            figures = ", ".join(f"{kind} {counts[kind]:,}" for kind in kinds)
-            sections[-1][1].append(f"`{title.strip()}` {figures}" if is_tag else figures)
-    yield from (f"- **{title}**: {'; '.join(found)}." for title, found in sections)
-    yield f"- **Beside the lines**: {'; '.join(f'{what} {count:,}' for what, count in figures_of(result))}."
+    """What the lines were, for docs/LINUX.md."""
+    kinds = ", ".join(f"{kind} {result.totals[kind]:,}" for kind in KINDS)
+    lines = sum(result.totals[kind] for kind in KINDS)
+    yield f"{result.totals['scripts']:,} scripts, {lines:,} lines: {kinds}."

@@ -1,6 +1,8 @@
-"""The destination's guest while a program under test is its handler: the processors, and the userfault object that the handler's calls are made on.
+"""The destination's guest while a program under test is its handler: the processors, and the userfault object that the
+handler's calls are made on.
 
-A map call is read to its end in the step that makes it. So no call overlaps another one, and no message of a call is unread between two steps."""
+A map call is read to its end in the step that makes it. So no call overlaps another one, and no message of a call is
+unread between two steps."""
 
 import struct
 
@@ -26,7 +28,8 @@ def message_bytes(words):
 
 
 class Waiting:
-    """A load or store that has to be made again. is_asleep: its thread sleeps in the kernel; is_read: and the handler has read its message."""
+    """A load or store that must be made again. is_asleep: its thread sleeps in the kernel; is_read: and the handler
+    has read its message."""
 
     def __init__(self, command, is_asleep=False):
         self.command, self.is_asleep, self.is_read = command, is_asleep, False
@@ -34,8 +37,8 @@ class Waiting:
 
 
 class TestedGuest:
-    """waiting: by processor. before_events, give_message: what happens while a map call sleeps on an event. is_ending: the last event of a call
-    was read, and nothing was put since."""
+    """waiting: by processor. before_events, give_message: what happens while a map call sleeps on an event. is_ending:
+    the last event of a call was read, and nothing was put since."""
 
     mode, is_ending = MODE, False
 
@@ -119,7 +122,7 @@ class TestedGuest:
         self.waiting[cpu] = Waiting(command)
 
     def see_woken(self, start, end):
-        """An ioctl has woken who sleeps in a range. A thread runs, and sleeps anew where its page is still missing."""
+        """An ioctl has woken who sleeps in a range. A thread runs, and sleeps again where its page is still missing."""
         for cpu, waiting in self.waiting.items():
             if waiting.is_asleep and start <= waiting.command.addr < end:
                 said = self.not_stuck(self.host.ask(f"await {cpu}"), f"cpu {cpu} was to be woken")
@@ -127,12 +130,14 @@ class TestedGuest:
                 waiting.is_asleep, waiting.is_read = said == "blocked", False
 
     def put(self, page, data, mode):
-        """UFFDIO_COPY, or UFFDIO_ZEROPAGE where there are no bytes: what the kernel says. Once the last event of a call was read it says EAGAIN
-        until the call has gone on; here that is once."""
+        """UFFDIO_COPY, or UFFDIO_ZEROPAGE where there are no bytes: what the kernel says. Once the last event of a call
+        was read it says EAGAIN until the call has gone on; here that is once."""
         if self.is_ending:
             self.is_ending = False
             return "refused EAGAIN"
-        said = self.host.ask(f"copy {name(page)} {mode} {data.hex()}" if data else f"zeropage {name(page)} {PAGE} {mode}")
+        said = self.host.ask(
+            f"copy {name(page)} {mode} {data.hex()}" if data else f"zeropage {name(page)} {PAGE} {mode}"
+        )
         if said == "ok" and not mode & 1:
             self.see_woken(page * PAGE, page * PAGE + PAGE)
         return said

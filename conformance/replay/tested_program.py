@@ -1,4 +1,5 @@
-"""A program under test: it makes calls, one a line on its standard output, and reads the answer to each from its standard input."""
+"""A program under test: it makes calls, one a line on its standard output, and reads the answer to each from its
+standard input."""
 
 import os
 import select
@@ -60,7 +61,7 @@ class TestedProgram:
             return self.process.wait()
 
     def end(self):
-        """Its input ends, so it has to end too, with status 0."""
+        """Its input ends, so it must end too, with status 0."""
         self.close_input()
         status = self.wait()
         if status:

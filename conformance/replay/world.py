@@ -1,4 +1,5 @@
-"""Two nodes and the channel between them: makes the steps of a script, and writes a line for each as `postmig run` does."""
+"""Two nodes and the channel between them: makes the steps of a script, and writes a line for each as `postmig run`
+does."""
 
 from . import script
 from .destination import Destination, followed
@@ -161,7 +162,8 @@ class World:
     # ---- what the guest sees at the end ----
 
     def memory(self):
-        """For each mapped page its protection and its bytes (None: zeros), by the kernel's memory and the owed table."""
+        """For each mapped page its protection and its bytes (None: zeros), by the kernel's memory and the owed
+        table."""
         node = self.running()
         if not node.guest:
             return {}

@@ -1,4 +1,4 @@
-"""Wrong replays: in each, one step of a node does the wrong thing on the kernel. A comparison has to find each of them.
+"""Wrong replays: in each, one step of a node does the wrong thing on the kernel. A comparison must find each of them.
 
 Each function changes the classes of a replay, for the rest of the process."""
 
@@ -10,7 +10,7 @@ from .source import Source
 
 
 def change_lines(start, change):
-    """Changes each host command that begins so; None is not made, and answered `ok`."""
+    """Changes each host command that begins so; None is not made, and returns `ok`."""
     old = Host.ask
 
     def ask(host, line):
@@ -167,19 +167,8 @@ def end_does_not_wait():
 
 
 def events_wake_nobody():
-    """Whoever sleeps in a range that is gone sleeps on."""
+    """A thread that sleeps in a range that is gone sleeps on."""
     Guest.wake_gone = lambda guest, start, end: None
-
-
-def protects_after_reading():
-    """A page is read first and protected then. A store between is lost, which only a race shows."""
-
-    def read_protected(source, pages):
-        copies = [source.guest.host.page(page) for page in pages]
-        source.guest.host.must(f"writeprotect 0x{pages[0] * 4096:x} {len(pages) * 4096} 1")
-        return copies
-
-    Source.read_protected = read_protected
 
 
 FOUND_BY_REPLAYS = (
@@ -203,5 +192,3 @@ FOUND_BY_REPLAYS = (
     end_does_not_wait,
     events_wake_nobody,
 )
-# What no replay shows, since it makes one step after the other; races/protect_order.c shows it.
-RACES = (protects_after_reading,)

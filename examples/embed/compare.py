@@ -2,7 +2,8 @@
 
 python3 compare.py SCRIPT ANSWERS     the script that was done, and a line for each of its lines that has an answer
 
-The status is 1 where an answer differs, is missing or is one too many, where a file cannot be read, and where nothing was compared.
+The status is 1 where an answer differs, is missing or is one too many, where a file cannot be read, and where nothing
+was compared.
 """
 
 import pathlib

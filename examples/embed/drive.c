@@ -1,4 +1,4 @@
-/* Drives a migration by a schedule of its own: a page is pushed when a processor asks for it, and the others one by one behind that.
+/* Drives a migration by a schedule of its own: a page is pushed when a processor asks for it, and the others one by one after that.
    Prints a line for each fault, and the counters at the end. */
 #include <inttypes.h>
 #include <stdio.h>

@@ -86,7 +86,7 @@ static void take(const struct frame *frame)
         keep(effect.addr / PAGE_BYTES, frame);
 }
 
-/* What has come is taken, and what the node has to say is sent. */
+/* What has arrived is taken, and what the node wants to send is sent. */
 static void exchange(void)
 {
     struct frame frame;

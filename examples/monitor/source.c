@@ -95,7 +95,7 @@ static bool push(void)
     return true;
 }
 
-/* Takes what has come back. Returns whether the destination has all. */
+/* Takes the frames on the way back. Returns whether the destination has all. */
 static bool take_back(void)
 {
     struct frame frame;

@@ -73,7 +73,7 @@ static void put_number(uint64_t number)
     }
 }
 
-// A text with numbers in the place of its question marks.
+// A text with numbers instead of its question marks.
 static void put_line(const char *text, const uint64_t *numbers)
 {
     for (; *text; text++) {

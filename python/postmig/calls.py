@@ -1,4 +1,5 @@
-"""The calls of libpostmig, as they are in postmig.h and postmig_node.h, with what all of them share: handles, room and refusals."""
+"""The calls of libpostmig, as they are in postmig.h and postmig_node.h, with what all of them share: handles, room and
+refusals."""
 
 from __future__ import annotations
 
@@ -11,10 +12,12 @@ from typing import Callable, Optional
 OK, NO_ROOM, NOT_OPEN, NOT_A_LINE, NO_MEMORY, NO_CPU, NO_FRAME, FRAMES_WAIT, BAD_TAG, BAD_LENGTH, BAD_FIELD = range(11)
 NOT_A_FRAME, NOT_A_COMMAND, NO_PAGE, NO_TRACE, NO_QUESTION, REFUSED = 11, 12, 13, 14, 15, 64
 WORDS = {
-    NO_ROOM: "there is no room for the answer", NOT_OPEN: "the handle is not open", NOT_A_LINE: "the text is not a line", NO_MEMORY: "no memory",
-    NO_CPU: "there are 1 to 16 processors", NO_FRAME: "no frame waits", FRAMES_WAIT: "frames wait", BAD_TAG: "BadTag", BAD_LENGTH: "BadLength",
-    BAD_FIELD: "BadField", NOT_A_FRAME: "the bytes are not those of one frame", NOT_A_COMMAND: "the numbers are not those of a command",
-    NO_PAGE: "there is no such page", NO_TRACE: "the node has no trace", NO_QUESTION: "no question has this number",
+    NO_ROOM: "there is no room for the answer", NOT_OPEN: "the handle is not open",
+    NOT_A_LINE: "the text is not a line", NO_MEMORY: "no memory", NO_CPU: "there are 1 to 16 processors",
+    NO_FRAME: "no frame waits", FRAMES_WAIT: "frames wait", BAD_TAG: "BadTag", BAD_LENGTH: "BadLength",
+    BAD_FIELD: "BadField", NOT_A_FRAME: "the bytes are not those of one frame",
+    NOT_A_COMMAND: "the numbers are not those of a command", NO_PAGE: "there is no such page",
+    NO_TRACE: "the node has no trace", NO_QUESTION: "no question has this number",
 }
 POINTER, SIZE, LONG = ctypes.c_void_p, ctypes.c_size_t, ctypes.c_uint64
 BYTE, WORD, BOOL, TEXT = ctypes.c_uint8, ctypes.c_uint32, ctypes.c_bool, ctypes.c_char_p
@@ -31,7 +34,9 @@ class Counts(ctypes.Structure):
     installed: int
     dropped: int
     faults: int
-    _fields_ = [(it, WORD) for it in ("phase", "epoch", "rounds", "left")] + [(it, LONG) for it in ("sent", "installed", "dropped", "faults")]
+    _fields_ = [(it, WORD) for it in ("phase", "epoch", "rounds", "left")] + [
+        (it, LONG) for it in ("sent", "installed", "dropped", "faults")
+    ]
 
 
 class Frame(ctypes.Structure):
@@ -56,13 +61,17 @@ class Effect(ctypes.Structure):
     length: int
     value: int
     reply: int
-    _fields_ = [(it, WORD) for it in ("kind", "cpu", "number", "count")] + [(it, LONG) for it in ("addr", "other", "length", "value")] + [("reply", WORD)]
+    _fields_ = [(it, WORD) for it in ("kind", "cpu", "number", "count")] + [
+        (it, LONG) for it in ("addr", "other", "length", "value")
+    ] + [("reply", WORD)]
 
 
 class Command(ctypes.Structure):
     """A command of a processor, as struct postmig_command."""
 
-    _fields_ = [(it, WORD) for it in ("kind", "width", "prot", "place", "may_move")] + [(it, LONG) for it in ("addr", "length", "new_length", "target", "value")]
+    _fields_ = [(it, WORD) for it in ("kind", "width", "prot", "place", "may_move")] + [
+        (it, LONG) for it in ("addr", "length", "new_length", "target", "value")
+    ]
 
 
 class SourceState(ctypes.Structure):
@@ -144,7 +153,9 @@ def _places() -> list[str]:
         return [named]
     built = pathlib.Path(__file__).resolve().parents[2] / "dist" / "libpostmig.so"
     prefixes = [pathlib.Path.home() / ".local", pathlib.Path("/usr/local")]
-    installed = [str(prefix / "lib" / "libpostmig.so") for prefix in prefixes if (prefix / "lib" / "libpostmig.so").exists()]
+    installed = [
+        str(prefix / "lib" / "libpostmig.so") for prefix in prefixes if (prefix / "lib" / "libpostmig.so").exists()
+    ]
     return [str(built)] * built.exists() + ["libpostmig.so.0"] + installed
 
 
@@ -158,7 +169,10 @@ def _loaded() -> ctypes.CDLL:
             call = getattr(found, f"postmig_{name}")
             call.argtypes, call.restype = takes, None if name == "free" else WORD
         return found
-    raise OSError("there is no libpostmig: ./postmig library makes it, ./postmig install PREFIX installs it, POSTMIG_LIBRARY names another")
+    raise OSError(
+        "there is no libpostmig: ./postmig library makes it, ./postmig install PREFIX installs it, POSTMIG_LIBRARY "
+        "names another"
+    )
 
 
 library = _loaded()

@@ -1,23 +1,31 @@
-"""One node at a time: the decisions of a source or of a destination, without the bytes of pages (postmig_node.h has what each call does)."""
+"""One node at a time: the decisions of a source or of a destination, without the bytes of pages (postmig_node.h has
+what each call does)."""
 
 from __future__ import annotations
 
 import ctypes
 from typing import Optional
 
-from .calls import NO_FRAME, NO_PAGE, SIZE, WORD, Command, DestinationState, Effect, Handle, Refused, Room, SourceState, ensure, library
+from .calls import (
+    NO_FRAME, NO_PAGE, SIZE, WORD, Command, DestinationState, Effect, Handle, Refused, Room, SourceState, ensure,
+    library,
+)
 
 (
-    DID_ANSWER, DID_SLEEP, DID_ENTER_CALL, DID_START, DID_ROUND, DID_SEND_PAGE, DID_SEND_ZERO, DID_SEND_RUN, DID_READ_FAULT, DID_READ_EVENT,
-    DID_READ_LAST, DID_UNPROTECT, DID_ZERO, DID_WAKE, DID_FORGET, DID_REQUEST, DID_SWITCH, DID_MOVE, DID_TAKE_ADVISE, DID_TAKE_PAGE,
-    DID_TAKE_ZERO, DID_TAKE_RUN, DID_TAKE_DISCARD, DID_TAKE_PACKAGE, DID_TAKE_END, DID_TAKE_RESUME, DID_TAKE_REQUEST, DID_TAKE_RECV,
-    DID_TAKE_DONE, DID_INSTALL, DID_DROP, DID_DEQUEUE, DID_END, DID_BREAK, DID_NOTICE, DID_RESUME,
+    DID_ANSWER, DID_SLEEP, DID_ENTER_CALL, DID_START, DID_ROUND, DID_SEND_PAGE, DID_SEND_ZERO, DID_SEND_RUN,
+    DID_READ_FAULT, DID_READ_EVENT, DID_READ_LAST, DID_UNPROTECT, DID_ZERO, DID_WAKE, DID_FORGET, DID_REQUEST,
+    DID_SWITCH, DID_MOVE, DID_TAKE_ADVISE, DID_TAKE_PAGE, DID_TAKE_ZERO, DID_TAKE_RUN, DID_TAKE_DISCARD,
+    DID_TAKE_PACKAGE, DID_TAKE_END, DID_TAKE_RESUME, DID_TAKE_REQUEST, DID_TAKE_RECV, DID_TAKE_DONE, DID_INSTALL,
+    DID_DROP, DID_DEQUEUE, DID_END, DID_BREAK, DID_NOTICE, DID_RESUME,
 ) = range(1, 37)
 LOAD, STORE, MMAP, MUNMAP, MREMAP, DONTNEED = range(1, 7)
 PROT_NONE, PROT_READ, PROT_READ_WRITE = range(3)
 ANYWHERE, FIXED, NO_REPLACE = range(3)
 SOURCE_IDLE, SOURCE_PRECOPY, SOURCE_STOPPED, SOURCE_PAUSED, SOURCE_RELEASED = range(5)
-DESTINATION_IDLE, DESTINATION_ADVISED, DESTINATION_DISCARDING, DESTINATION_RUNNING, DESTINATION_PAUSED, DESTINATION_ENDED = range(6)
+(
+    DESTINATION_IDLE, DESTINATION_ADVISED, DESTINATION_DISCARDING, DESTINATION_RUNNING, DESTINATION_PAUSED,
+    DESTINATION_ENDED,
+) = range(6)
 
 
 def command(kind: int, **fields: int) -> Command:
@@ -198,7 +206,8 @@ def zero_frame(epoch: int, page: int) -> bytes:
 
 
 def frame_lengths(front: bytes) -> Optional[tuple[int, int]]:
-    """How many bytes the frame at the front has without those of its pages, and how many of pages; None of fewer than 12 bytes."""
+    """How many bytes the frame at the front has without those of its pages, and how many of pages; None of fewer than
+    12 bytes."""
     head, pages = SIZE(), SIZE()
     status = library.postmig_frame_lengths(front, len(front), ctypes.byref(head), ctypes.byref(pages))
     if status == NO_FRAME:

@@ -5,7 +5,10 @@ from __future__ import annotations
 import ctypes
 from typing import Iterator, Optional
 
-from .calls import BOOL, NO_FRAME, NO_ROOM, NOT_A_LINE, REFUSED, SIZE, Counts, Frame, Handle, Refused, Room, ensure, library, refusal_name
+from .calls import (
+    BOOL, NO_FRAME, NO_ROOM, NOT_A_LINE, REFUSED, SIZE, Counts, Frame, Handle, Refused, Room, ensure, library,
+    refusal_name,
+)
 
 CPUS, QUEUES, OWED, WIRES, PAGES, ALL = range(6)
 IDLE, PRECOPY, SWITCHING, POSTCOPY, COMPLETE = range(5)
@@ -52,7 +55,8 @@ class World(Handle):
         return None
 
     def show(self, what: int = ALL, start: int = 0, end: int = 2**64 - 1) -> bytes:
-        """What `postmig show` writes of the world as it is now; the pages are those of the addresses from start up to, and without, end."""
+        """What `postmig show` writes of the world as it is now; the pages are those of the addresses from start up to,
+        and without, end."""
         return self.room.filled(lambda *room: library.postmig_world_show(self.handle, what, start, end, *room))
 
 
@@ -64,12 +68,15 @@ class Frames(Handle):
         ensure(library.postmig_frames_new(self.handle))
 
     def feed(self, piece: bytes) -> Iterator[tuple[Frame, bytes]]:
-        """Takes the next bytes of the stream, and yields each frame that is whole now, with its bytes. A fault of the stream is Refused."""
+        """Takes the next bytes of the stream, and yields each frame that is whole now, with its bytes. A fault of the
+        stream is Refused."""
         ensure(library.postmig_frames_feed(self.handle, piece, len(piece)))
         while True:
             frame = Frame()
             try:
-                text = self.room.filled(lambda *room: library.postmig_frames_next(self.handle, ctypes.byref(frame), *room))
+                text = self.room.filled(
+                    lambda *room: library.postmig_frames_next(self.handle, ctypes.byref(frame), *room)
+                )
             except Refused as refused:
                 if refused.status == NO_FRAME:
                     return
@@ -79,20 +86,27 @@ class Frames(Handle):
 
 def run(script: bytes, cpus: int = 2, transcript: bool = False) -> bytes:
     """What a whole script prints, on a new world."""
-    return Room(len(script) * 8 + 4096).filled(lambda *room: library.postmig_run(cpus, transcript, script, len(script), *room))
+    return Room(len(script) * 8 + 4096).filled(
+        lambda *room: library.postmig_run(cpus, transcript, script, len(script), *room)
+    )
 
 
 def check(transcript: bytes) -> tuple[bool, bytes]:
     """Whether a transcript is that of one flat memory, and the verdict."""
     is_flat = BOOL()
-    verdict = Room().filled(lambda *room: library.postmig_check(transcript, len(transcript), ctypes.byref(is_flat), *room))
+    verdict = Room().filled(
+        lambda *room: library.postmig_check(transcript, len(transcript), ctypes.byref(is_flat), *room)
+    )
     return is_flat.value, verdict
 
 
 def explain(transcript: bytes, every: bool = False) -> tuple[bool, bytes]:
-    """Whether a transcript is that of one flat memory, and what is wrong with its first wrong entry, or with every one."""
+    """Whether a transcript is that of one flat memory, and what is wrong with its first wrong entry, or with every
+    one."""
     is_flat = BOOL()
-    said = Room().filled(lambda *room: library.postmig_explain(every, transcript, len(transcript), ctypes.byref(is_flat), *room))
+    said = Room().filled(
+        lambda *room: library.postmig_explain(every, transcript, len(transcript), ctypes.byref(is_flat), *room)
+    )
     return is_flat.value, said
 
 
@@ -102,7 +116,9 @@ def reason(line: bytes, transcript: bool = False) -> Optional[tuple[int, bytes]]
     status = NO_ROOM
     while status == NO_ROOM:
         room.grow(max(room.size, room.written.value))
-        status = library.postmig_line_reason(transcript, line, len(line), ctypes.byref(column), room.bytes, room.size, room.count)
+        status = library.postmig_line_reason(
+            transcript, line, len(line), ctypes.byref(column), room.bytes, room.size, room.count
+        )
     if status == NOT_A_LINE:
         return column.value, ctypes.string_at(room.bytes, room.written.value)
     ensure(status)

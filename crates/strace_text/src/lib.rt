@@ -2,8 +2,7 @@
 //!
 //! [`convert`] joins the halves of calls that were unfinished, knows which threads are of which process and which descriptor is which
 //! userfault object, and writes each call on an object as lines of a log. A line of the trace that cannot be read is named with a reason, and
-//! the log has `lost` there. Which options of strace the text needs is in audit/README.md, and `audit/from-strace`, in Python, makes the same
-//! bytes.
+//! the log has `lost` there. docs/AUDIT.md says which options of strace the text needs.
 //!
 //! No contract says what a line of the trace means: the crate is proved to be safe and to end, and is tested for the rest. It judges nothing.
 #![tactic(auto)]
