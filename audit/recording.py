@@ -151,8 +151,8 @@ def run_to_end(command, path=None, environment=None, passed=(signal.SIGTERM,)):
     return 128 - status if status < 0 else status
 
 
-def preload(log, words, scan=True):
-    """Runs a program under the recorder. Returns its status."""
+def preload(log, words, scan=True, sums=False):
+    """Runs a program under the recorder, with `sums` also the file LOG.sums. Returns its status."""
     check_machine()
     path = found_program(words[0])
     if reason := why_not_preloaded(path):
@@ -165,6 +165,9 @@ def preload(log, words, scan=True):
         environment["LD_PRELOAD"] = ":".join(filter(None, (str(RECORDER), os.environ.get("LD_PRELOAD"))))
         if not scan:
             environment["UFFDLOG_NO_SCAN"] = "1"
+        if sums:
+            create(f"{log}.sums", "")
+            environment["UFFDLOG_SUMS"] = os.path.abspath(f"{log}.sums")
         status = run_to_end(words, path, environment)
         page.seek(0)
         lost, = struct.unpack("<Q", page.read(8))

@@ -74,7 +74,7 @@ static void note_exit(void)
 
 __attribute__((constructor)) static void begin(void)
 {
-    const char *path = getenv("UFFDLOG"), *page = getenv("UFFDLOG_SHARED");
+    const char *path = getenv("UFFDLOG"), *page = getenv("UFFDLOG_SHARED"), *sums = getenv("UFFDLOG_SUMS");
     int error = errno;
 
     (void)next(); /* so that no signal handler needs to look them up */
@@ -84,6 +84,8 @@ __attribute__((constructor)) static void begin(void)
         shared_map(page);
     if (getenv("UFFDLOG_NO_SCAN"))
         record_no_pages();
+    if (sums)
+        sums_open(sums);
     note_started();
     objects_after_exec();
     if (pthread_atfork(NULL, NULL, after_fork))

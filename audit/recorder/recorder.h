@@ -26,4 +26,8 @@ int recorded_open(int device, unsigned long flags);
 void record_pages(uint64_t object, int fd, uint64_t start, uint64_t length);
 void record_no_pages(void); /* and from now on not */
 
+/* Before a COPY: a sum of each of its source's pages, to the file that sums_open has named. Without that nothing is done. */
+void sums_open(const char *path);
+void record_sums(const struct call *call, uint64_t destination, uint64_t source, uint64_t length);
+
 #endif

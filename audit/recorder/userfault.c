@@ -119,6 +119,8 @@ static int recorded_ioctl(const struct kind *kind, uint64_t object, int fd, void
     if (registers)
         ranges_add(shared(), passed.numbers[0], passed.numbers[1]);
     call = begin_ioctl(kind, object, fd, &passed);
+    if (kind->request == UFFDIO_COPY && passed.readable)
+        record_sums(&call, passed.numbers[0], passed.numbers[1], passed.numbers[2]);
     result = next()->ioctl(fd, kind->request, argument);
     error = errno;
     end_ioctl(&call, kind, result < 0, error, argument);
