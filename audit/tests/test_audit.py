@@ -71,6 +71,18 @@ class Stored(unittest.TestCase):
         owed = sum(it["pages"] for it in cases if it["rule"] == "page-owed")
         self.assertTrue(0 < owed <= summary["missing"], summary)
 
+    def test_trace_events(self):
+        """The file is an array of events: one for each wait of the summary, and one for each finding."""
+        log = gzip.decompress((LOGS / "live-handler.log.gz").read_bytes())
+        with tempfile.TemporaryDirectory() as folder:
+            file = Path(folder) / "events"
+            *cases, summary = map(json.loads, said_of(log, "--json", "--trace-events", str(file)).stdout.splitlines())
+            events = json.loads(file.read_text())
+        waits = [it for it in events if it["ph"] == "X"]
+        self.assertEqual((len(waits), round(1000 * max(it["dur"] for it in waits))), (summary["waits"], summary["longest"]))
+        named = collections.Counter(it["name"] for it in events if it["cat"] == "finding")
+        self.assertEqual(named, collections.Counter(it["rule"] for it in cases))
+
     def test_planted_faults(self):
         for name, plant, rule in planted.PLANTED:
             log = LOGS / f"{name}.log.gz"

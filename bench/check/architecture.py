@@ -19,7 +19,7 @@ PICTURE = page.TOP / "docs" / "architecture.svg"
 # From the top: the height of each row, and its groups, each with what it is, its crates, and how many of the twelve
 # columns it takes. A group of the first row without a neighbour below it is as high as both rows.
 ROWS = (
-    (52, ("the programs", "postmig uffd_audit console command_line", 9), ("the library for C", "postmig_c", 3)),
+    (52, ("the programs", "postmig uffd_audit console command_line streams", 9), ("the library for C", "postmig_c", 3)),
     (
         148,
         (
@@ -154,7 +154,7 @@ def drawn():
 
 
 def main():
-    page.option()
+    page.option("--write")
     page.keep(PICTURE, drawn())
 
 

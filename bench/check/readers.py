@@ -2,11 +2,11 @@
 """Gives each command that reads lines an input without an end and without a line feed: it must stop at its first
 line, in little memory.
 
-python3 bench/check/readers.py [--program PATH]
+python3 bench/check/readers.py [--program PATH] [--audit PATH]
 
 The input is /dev/zero, as FILE and as standard input, and a letter over and over from a pipe, each alone and after a
-line of a script. A command has 64 MiB of address space, and 20 s. It runs the proved builds, as programs.py does; or
-with --program that one alone.
+line of a script. A command has 64 MiB of address space, and 20 s. uffd-audit gets the same, but not after a line. It
+runs the proved builds, as programs.py does; or with --program and --audit these alone.
 """
 
 import argparse
@@ -84,8 +84,16 @@ def ended_on(words, stdin):
     return done.returncode, done.stderr
 
 
+def audit_cases(program):
+    """The same of uffd-audit."""
+    yield "audit /dev/zero", ended_on([program, "/dev/zero"], subprocess.DEVNULL)
+    with open("/dev/zero", "rb") as zeros:
+        yield "audit < /dev/zero", ended_on([program], zeros)
+    yield "audit of a letter", ended([program], b"")
+
+
 def cases(program):
-    """Each case with its name, and how it ends."""
+    """Each case of postmig with its name, and how it ends."""
     for command in OF_FILES:
         words = [program, *command.split(), "/dev/zero"]
         yield f"{command} /dev/zero", ended_on(words, subprocess.DEVNULL)
@@ -99,24 +107,28 @@ def cases(program):
 
 def asked():
     parser = argparse.ArgumentParser(description="Gives each command an input without an end.")
-    parser.add_argument(
-        "--program", type=pathlib.Path, metavar="PATH", help="a build of the program, in place of the proved ones"
-    )
+    for name in ("--program", "--audit"):
+        parser.add_argument(
+            name, type=pathlib.Path, metavar="PATH", help="a build of the program, in place of the proved ones"
+        )
     return parser.parse_args()
 
 
 def main():
-    program = asked().program
-    builds = [program.absolute()] if program else programs.builds("postmig")
-    if not builds:
+    it = asked()
+    given = it.program or it.audit
+    scripts = ([it.program.absolute()] if it.program else []) if given else programs.builds("postmig")
+    logs = ([it.audit.absolute()] if it.audit else []) if given else programs.builds("uffd_audit")
+    if not scripts + logs:
         sys.exit("readers: there is no proved build: ./postmig prove or rt ci makes one")
     count = wrong = 0
-    for build in builds:
-        for name, (status, said) in cases(build):
-            count += 1
-            if status != 1:
-                wrong += 1
-                print(f"readers: {name} by {build.name}: status {status}, {said[:200]}")
+    for builds, cases_of, wanted in ((scripts, cases, 1), (logs, audit_cases, 2)):
+        for build in builds:
+            for name, (status, said) in cases_of(build):
+                count += 1
+                if status != wanted:
+                    wrong += 1
+                    print(f"readers: {name} by {build.name}: status {status}, {said[:200]}")
     print(f"readers: {count} cases, {wrong} faults")
     sys.exit(1 if wrong else 0)
 

@@ -1,3 +1,4 @@
 pub mod Certificates
 pub mod Severities
+pub mod TraceEvents
 pub mod Verdicts

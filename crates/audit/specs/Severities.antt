@@ -13,6 +13,7 @@ abbrev pub severity_of : Asked → Rule → Severity
 severity_of asked rule.Unexplained = severity.Unexplained
 severity_of asked rule.PutTwiceWoken = severity.Note
 severity_of asked rule.PageOwed = if asked.expects_all then severity.Fault else severity.Note
+severity_of asked rule.Page = severity.Page
 severity_of asked broken = severity.Fault
 
 -- the name of a severity
@@ -20,10 +21,12 @@ abbrev pub severity_word : Severity → List ℕ
 severity_word severity.Unexplained = codes "unexplained"
 severity_word severity.Fault = codes "fault"
 severity_word severity.Note = codes "note"
+severity_word severity.Page = codes "page"
 
--- whether a finding of this severity fails a log: a note only where it is to
+-- whether a finding of this severity fails a log: a note only where it is to, and never what happened to a page
 abbrev pub is_failure : Bool → Severity → Bool
 is_failure strict severity.Note = strict
+is_failure strict severity.Page = false
 is_failure strict said = true
 
 -- whether a log fails in which a rule is broken

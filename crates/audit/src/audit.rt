@@ -2,6 +2,7 @@
 
 ghost use Rattle.std.specs.Prelude.{◌≡◌, false, OnOk, IfOk, IfSome, string_bytes};
 ghost use Rattle.audit.specs.Severities.{any_fails};
+ghost use Rattle.audit.specs.TraceEvents.{AreEvents, IsTraced};
 ghost use Rattle.audit.specs.Verdicts.{
   Audits,
   FitsLog,
@@ -19,6 +20,7 @@ use crate::certificate::{Certificate, Missing, certificate_of};
 use crate::findings::{Finding, list_findings};
 use crate::judging::{Judged, judge};
 use crate::summary::{front_of, summary};
+use crate::trace_events::trace_of;
 use call_log::fault::LogFault;
 use call_log::input::{read_log, write_out};
 use call_log::split::first_line;
@@ -68,6 +70,10 @@ pub struct Asked {
     pub strict: bool,
     /// Whether pages that are still missing when their registration ends are a fault, and not a note.
     pub expects_all: bool,
+    /// The number of the page whose history is written after the findings, if any is to be: its address divided by 4,096.
+    pub page: Option<u64>,
+    /// Whether waits and findings are put out as trace events too.
+    pub traces: bool,
     pub form: Form,
 }
 
@@ -76,15 +82,20 @@ pub struct Asked {
 ///
 /// The calls of a log, its entries and the run that was found are kept until it ends. At most 4,294,967,295 reads are made, and as many lines are read; an
 /// input that needs more ends with a read fault. An interrupted read or write is a fault. After a fault some of the text was written.
+///
+/// Where trace events are asked for these are added to `events`, unless a line is wrong: the waits and the findings as an array of JSON.
 pub fn audit_log<R: Read, W: Write>(
     alloc: Global,
     reader: &mut R,
     writer: &mut W,
     name: &str,
     asked: Asked,
+    events: &mut Vec<u8>,
 ) -> Result<Verdict, LogFault>
-    ensures { IfOk result (λ verdict. IfSome (R.remaining reader.old) (λ input.
+    ensures audits { IfOk result (λ verdict. IfSome (R.remaining reader.old) (λ input.
         Audits asked name.now input verdict (W.contents writer.old) (W.contents writer.new))) }
+    ensures traces { IfOk result (λ verdict.
+        IsTraced asked verdict events.old.items events.new.items) }
 {
     let read = match read_log(alloc, reader, writer, name)? {
         Some(read) => read,
@@ -93,6 +104,7 @@ pub fn audit_log<R: Read, W: Write>(
     let report = report_of(alloc, name, read, asked)?;
     write_out(writer, &report.findings)?;
     write_out(writer, &report.summary)?;
+    events.extend_from_slice(&report.events)?;
     Ok(report.verdict)
 }
 
@@ -101,28 +113,44 @@ pub fn audit_log<R: Read, W: Write>(
 struct Report {
     findings: Vec<u8>,
     summary: Vec<u8>,
+    /// Trace events, where they are asked for.
+    events: Vec<u8>,
     verdict: Verdict,
 }
 
 /// Judges the calls of a log, and has the run that was found checked.
 fn report_of(alloc: Global, name: &str, read: ReadLog, asked: Asked) -> Result<Report, NoMemory>
-    ensures { IfOk result (λ report. IsReport asked name.now read report) }
+    ensures report { IfOk result (λ report. IsReport asked name.now read report) }
+    ensures events { IfOk result (λ report. AreEvents asked report.events.items) }
 {
     let CompleteLog { log, entries } = read.complete(alloc)?;
     let whole = entries.whole;
-    let judged = judge(alloc, log)?;
+    let judged = judge(alloc, log, asked.page)?;
     let found = list_findings(alloc, &judged, asked)?;
     let findings = print_findings(alloc, name, asked, &found)?;
     let judgement = verdict_of(&judged, any_fails(asked, &found), whole);
     let front = front_of(alloc, &judged, &found, asked)?;
+    let events = events_of(alloc, &judged, asked)?;
     let certificate = certificate_of(alloc, judged, &entries)?;
     let summary = summary(alloc, asked.form, &front, certificate)?;
     let verdict = certified_verdict(judgement, certificate);
     Ok(Report {
         findings,
         summary,
+        events,
         verdict,
     })
+}
+
+/// The trace events of a log, where they are asked for.
+fn events_of(alloc: Global, judged: &Judged, asked: Asked) -> Result<Vec<u8>, NoMemory>
+    ensures { IfOk result (λ events. AreEvents asked events.items) }
+{
+    if asked.traces {
+        trace_of(alloc, judged, asked.late_after)
+    } else {
+        Ok(Vec::new(alloc))
+    }
 }
 
 /// Whether a log fails in which this was found.

@@ -1,9 +1,11 @@
 //! The cases of broken rules, from what was noted of a run.
 
+use crate::history::Change;
 use crate::judging::Judged;
 use crate::notes::{Again, Area, Owed, Slept, Untold};
 use crate::rule_names::Rule;
 use crate::search::Unexplained;
+use crate::threads::named_thread;
 use crate::waits::wait_of;
 use crate::wakes::find_wakes;
 use crate::why::Refusal;
@@ -38,6 +40,8 @@ pub(crate) struct Case {
     pub(crate) since: Option<Moment>,
     pub(crate) until: Option<Moment>,
     pub(crate) reason: Option<Refusal>,
+    /// What was done to the page that is asked for.
+    pub(crate) change: Option<Change>,
 }
 
 impl Case {
@@ -59,7 +63,7 @@ pub(crate) fn end_of(call: &LogCall) -> Option<Moment> {
 }
 
 /// A page, as a range.
-fn one_page(first: u64) -> Range {
+pub(crate) fn one_page(first: u64) -> Range {
     Range { first, count: 1 }
 }
 
@@ -85,7 +89,7 @@ pub(crate) fn stopped_at(log: &Log, call: &LogCall) -> u64 {
 }
 
 /// A case of a call, with its pages.
-fn case_of(log: &Log, rule: Rule, call: &LogCall) -> Case {
+pub(crate) fn call_case(log: &Log, rule: Rule, call: &LogCall) -> Case {
     Case {
         rule,
         line: call.begin,
@@ -98,6 +102,7 @@ fn case_of(log: &Log, rule: Rule, call: &LogCall) -> Case {
         since: None,
         until: end_of(call),
         reason: None,
+        change: None,
     }
 }
 
@@ -106,7 +111,7 @@ fn unexplained_case(log: &Log, found: &Unexplained) -> Option<Case> {
     let call = log.call(found.call)?;
     Some(Case {
         reason: Some(found.reason),
-        ..case_of(log, Rule::Unexplained, &call)
+        ..call_case(log, Rule::Unexplained, &call)
     })
 }
 
@@ -115,7 +120,7 @@ fn before_case(log: &Log, place: u64) -> Option<Case> {
     let call = call_at(log, place)?;
     Some(Case {
         range: Some(one_page(stopped_at(log, &call))),
-        ..case_of(log, Rule::PresentBefore, &call)
+        ..call_case(log, Rule::PresentBefore, &call)
     })
 }
 
@@ -130,17 +135,8 @@ fn twice_case(log: &Log, place: u64, woken: Option<Moment>) -> Option<Case> {
         range: Some(one_page(stopped_at(log, &call))),
         since: end_of(&call),
         until: woken,
-        ..case_of(log, rule, &call)
+        ..call_case(log, rule, &call)
     })
-}
-
-/// A thread that its fault's message names. Those that none names have numbers from 2^31 on.
-fn named_thread(thread: u64) -> Option<u32> {
-    let thread = u32::try_from(thread).ok()?;
-    if thread == 0 || thread >= 1 << 31 {
-        return None;
-    }
-    Some(thread)
 }
 
 /// A fault that a call has read.
@@ -158,7 +154,7 @@ fn fault_case(log: &Log, rule: Rule, slept: &Slept) -> Option<Case> {
         flags: Some(slept.fault.flags),
         since: end_of(&read),
         until,
-        ..case_of(log, rule, &read)
+        ..call_case(log, rule, &read)
     })
 }
 
@@ -167,7 +163,7 @@ fn untold_case(log: &Log, untold: &Untold) -> Option<Case> {
     let call = call_at(log, untold.call)?;
     Some(Case {
         object: untold.object,
-        ..case_of(log, Rule::EventNotRead, &call)
+        ..call_case(log, Rule::EventNotRead, &call)
     })
 }
 
@@ -176,7 +172,7 @@ fn again_case(log: &Log, again: &Again) -> Option<Case> {
     let call = log.call(again.call)?;
     Some(Case {
         range: Some(one_page(again.page)),
-        ..case_of(log, Rule::NotTriedAgain, &call)
+        ..call_case(log, Rule::NotTriedAgain, &call)
     })
 }
 
@@ -226,6 +222,7 @@ fn owed_case(judged: &Judged, owed: &Owed) -> Option<Case> {
         since: None,
         until: call.as_ref().and_then(end_of),
         reason: None,
+        change: None,
     })
 }
 
@@ -275,7 +272,7 @@ fn add_calls(cases: &mut Vec<Case>, alloc: Global, judged: &Judged) -> Result<()
     let log = &judged.log;
     for place in &judged.notes.outside {
         if let Some(call) = call_at(log, *place) {
-            cases.push(case_of(log, Rule::NotRegistered, &call))?;
+            cases.push(call_case(log, Rule::NotRegistered, &call))?;
         }
     }
     for place in &judged.notes.before {

@@ -4,7 +4,7 @@ use crate::audit::{Asked, Form};
 use crate::cases::{Case, list_cases};
 use crate::judging::Judged;
 use crate::rule_names::Rule;
-use crate::texts::{json_text, text_of};
+use crate::texts::{json_text, page_text, text_of};
 use mig_base::NoMemory;
 use std::alloc::Global;
 
@@ -16,7 +16,7 @@ pub(crate) struct Finding {
     pub(crate) rule: Rule,
 }
 
-/// The findings of a log, in the order of their lines.
+/// The findings of a log, in the order of their lines, and what happened to the page that is asked for, in the order of the run.
 pub(crate) fn list_findings(
     alloc: Global,
     judged: &Judged,
@@ -28,13 +28,27 @@ pub(crate) fn list_findings(
             cases.sort_by_key(|case| (case.whose(), case.line))?;
             let mut found = group(alloc, judged, &cases)?;
             found.sort_by_key(|finding| finding.line)?;
+            add_history(&mut found, alloc, judged)?;
             Ok(found)
         }
         Form::Json => {
             cases.sort_by_key(|case| (case.line, case.rule))?;
+            cases.extend_from_slice(&judged.history.cases(alloc, &judged.log)?)?;
             list_each(alloc, judged, &cases)
         }
     }
+}
+
+/// Adds what happened to the page that is asked for, in its order.
+fn add_history(found: &mut Vec<Finding>, alloc: Global, judged: &Judged) -> Result<(), NoMemory> {
+    for case in &judged.history.cases(alloc, &judged.log)? {
+        found.push(Finding {
+            line: case.line,
+            text: page_text(alloc, judged.size, case)?,
+            rule: case.rule,
+        })?;
+    }
+    Ok(())
 }
 
 /// A finding for all cases of a rule and an object, which follow each other.

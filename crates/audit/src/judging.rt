@@ -1,5 +1,6 @@
 //! Judging a log: a run of it is looked for.
 
+use crate::history::History;
 use crate::notes::Notes;
 use crate::run::Run;
 use crate::search::{Search, Unexplained};
@@ -24,6 +25,8 @@ pub(crate) struct Judged {
     pub(crate) nothing: Option<Nothing>,
     /// The run that was found.
     pub(crate) run: Run,
+    /// What happened in it to the page that is asked for.
+    pub(crate) history: History,
 }
 
 impl Judged {
@@ -33,19 +36,21 @@ impl Judged {
     }
 }
 
-/// Looks for a run of a log. What only the search needs is gone then, with its pages.
-pub(crate) fn judge(alloc: Global, log: Log) -> Result<Judged, NoMemory> {
+/// Looks for a run of a log, and notes what happens to a page in it, by its number, if one is asked for. What only the search needs is gone then,
+/// with its pages.
+pub(crate) fn judge(alloc: Global, log: Log, page: Option<u64>) -> Result<Judged, NoMemory> {
     let nothing = nothing_in(&log);
     let size = log.size;
     let mut log = log;
     log.size = PAGE;
-    let mut search = Search::new(alloc, log)?;
+    let mut search = Search::new(alloc, log, page)?;
     search.search()?;
     let Search {
         log,
         kernel,
         unexplained,
         run,
+        history,
         ..
     } = search;
     let notes = kernel.finish()?;
@@ -56,5 +61,6 @@ pub(crate) fn judge(alloc: Global, log: Log) -> Result<Judged, NoMemory> {
         unexplained,
         nothing,
         run,
+        history,
     })
 }

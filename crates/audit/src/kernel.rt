@@ -74,6 +74,16 @@ fn answers_threads(call: &LogCall) -> bool {
     }
 }
 
+/// Whether a call of which no rule speaks wakes those who sleep at its pages: bit 0 of its modes says that it wakes nobody.
+fn wakes_beyond_rules(call: &LogCall) -> bool {
+    match call.call {
+        Call::Move { mode, .. } | Call::Continue { mode, .. } | Call::Poison { mode, .. } => mode
+            & DONTWAKE
+            == 0,
+        _ => false,
+    }
+}
+
 impl Kernel {
     /// A kernel with the objects that were open before the log begins, each with the address space that it watches.
     pub(crate) fn new(alloc: Global, log: &Log) -> Result<Kernel, NoMemory> {
@@ -449,6 +459,49 @@ impl Kernel {
         Ok(())
     }
 
+    /// A call of which no rule speaks has changed its pages, and those that it has moved: nothing is known of them then. Those who sleep at its own
+    /// wake, unless it was to wake nobody.
+    pub(crate) fn believe(
+        &mut self,
+        log: &Log,
+        place: u32,
+        call: &LogCall,
+    ) -> Result<(), NoMemory> {
+        let (Some(object), Some((start, len))) = (call.object(), call.bytes()) else {
+            return Ok(());
+        };
+        let on = Descriptor { object, fd: 0 };
+        self.forget_presence(object, log.size.range(start, len))?;
+        if let Call::Move { from, .. } = call.call {
+            self.forget_presence(object, log.size.range(from, len))?;
+        }
+        if !wakes_beyond_rules(call) {
+            return Ok(());
+        }
+        let woken = LogCall {
+            call: Call::Wake { on, start, len },
+            ..*call
+        };
+        let ending = ending_of(self.alloc, log, call, Answer::Done)?;
+        self.take_ending(log, place, &woken, &ending)?;
+        Ok(())
+    }
+
+    /// Nothing is known of the pages of a range.
+    fn forget_presence(&mut self, object: u64, range: Range) -> Result<(), NoMemory> {
+        let Some(space) = self.space_of(object) else {
+            return Ok(());
+        };
+        for number in range.first..range.end() {
+            if let Some(page) = self.page(space, number) {
+                let presence = Presence::Unknown;
+                let found = Some(Page { presence, ..page });
+                self.rules.assume(u64::from(space), number, found)?;
+            }
+        }
+        Ok(())
+    }
+
     /// The map call whose next event is this message.
     pub(crate) fn teller(&self, object: u64, message: Message) -> Option<u32> {
         for key in self.rules.calls() {
@@ -592,9 +645,4 @@ pub(crate) fn is_missing(page: Page) -> bool {
 /// Whether a page is known to be present.
 pub(crate) fn is_present(page: Page) -> bool {
     matches!(page.presence, Presence::Present)
-}
-
-/// Whether a page is present and write-protected.
-pub(crate) fn is_guarded(page: Page) -> bool {
-    is_present(page) && page.guarded
 }

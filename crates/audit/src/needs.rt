@@ -1,12 +1,13 @@
 //! Open calls that take effect before another one, for its answer.
 
-use crate::kernel::{is_guarded, is_missing};
+use crate::kernel::is_missing;
+use crate::polls::PROTECTED_STORE;
 use crate::search::Search;
 use crate::search::index::message_of;
 use crate::tellers::changes;
 use call_log::log_call::{COPY_PROTECTS, LogCall, PROTECTS, has_put, is_event};
 use call_log::pages::{PageSize, Range};
-use kernel_rules::fault::is_protection;
+use kernel_rules::fault::{is_protection, stops};
 use kernel_rules::{Fault, Phase};
 use uffd_log::{Call, Errno, Message};
 
@@ -35,10 +36,11 @@ pub(crate) enum Wanted {
     },
     /// Reads that return a fault of an object which waits to be read.
     Waiting(u64),
-    /// Reads that return a fault of some pages of an address space.
+    /// Reads that return a fault of some pages of an address space, but for those that return an event of this map call, which has to tell of it first.
     FaultsOfSpace {
         space: u32,
         range: Range,
+        by: u32,
     },
     /// Reads that return an event.
     Events,
@@ -227,8 +229,9 @@ impl Search {
                 call.object() == Some(object) && self.reads_missing(call, range)
             }
             Wanted::Waiting(object) => call.object() == Some(object) && self.reads_waiting(call),
-            Wanted::FaultsOfSpace { space, range } => {
-                self.watches_space(call, space) && self.reads_fault(call, range)
+            Wanted::FaultsOfSpace { space, range, by } => {
+                let is_of = self.watches_space(call, space) && self.reads_fault(call, range);
+                is_of && !self.reads_event_of(call, by)
             }
             Wanted::Events => self.reads_event(call),
             Wanted::Tellers => call.is_map_call() || matches!(call.call, Call::Fork),
@@ -380,6 +383,19 @@ impl Search {
         false
     }
 
+    /// Whether a call returns an event that may be of a map call.
+    fn reads_event_of(&self, call: &LogCall, by: u32) -> bool {
+        let (Some(object), Some(teller)) = (call.object(), self.log.call(by)) else {
+            return false;
+        };
+        for message in self.log.messages_of(call) {
+            if self.may_tell(&teller, object, *message) {
+                return true;
+            }
+        }
+        false
+    }
+
     /// Whether a call was refused with EAGAIN by an object which a map call has told.
     fn is_refused_during(&self, key: u32, call: &LogCall) -> bool {
         match call.object() {
@@ -475,11 +491,11 @@ impl Search {
                 .is_gone(space, addr, line.saturating_add(1), fault.end)
     }
 
-    /// Whether a page is registered, and not known to be write-protected.
+    /// Whether a page is registered, and no store there finds it write-protected.
     pub(crate) fn is_bare(&self, object: u64, number: u64) -> bool {
         match self.kernel.space_of(object) {
             Some(space) => match self.kernel.page(space, number) {
-                Some(page) => !is_guarded(page),
+                Some(page) => !stops(object, PROTECTED_STORE, page),
                 None => false,
             },
             None => false,

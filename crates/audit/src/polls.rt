@@ -20,7 +20,7 @@ pub(crate) const NEAR: u32 = 200;
 const PROTECTED: u64 = 2;
 
 /// The same, of a store.
-const PROTECTED_STORE: u64 = 3;
+pub(crate) const PROTECTED_STORE: u64 = 3;
 
 /// What is to be done for a poll.
 #[derive(Clone, Copy)]

@@ -14,6 +14,8 @@ pub(crate) enum Severity {
     Fault,
     /// What may harm the guest, and also be meant so.
     Note,
+    /// No finding: what happened to the page that is asked for.
+    Page,
 }
 
 impl Severity {
@@ -25,6 +27,7 @@ impl Severity {
             Severity::Unexplained => "unexplained",
             Severity::Fault => "fault",
             Severity::Note => "note",
+            Severity::Page => "page",
         }
     }
 }
@@ -52,10 +55,12 @@ pub(crate) enum Rule {
     NotTriedAgain,
     /// Each page is put before its registration ends.
     PageOwed,
+    /// No rule: what happened to the page that is asked for.
+    Page,
 }
 
 impl Rule {
-    /// All, in the order of docs/AUDIT.md.
+    /// All of which there are findings, in the order of docs/AUDIT.md.
     pub(crate) const ALL: [Rule; 10] = [
         Rule::Unexplained,
         Rule::NotRegistered,
@@ -81,6 +86,7 @@ impl Rule {
             Rule::EventNotRead => "event-not-read",
             Rule::NotTriedAgain => "not-tried-again",
             Rule::PageOwed => "page-owed",
+            Rule::Page => "page",
         }
     }
 
@@ -97,6 +103,7 @@ impl Rule {
             Rule::EventNotRead => "an event of this call was never read",
             Rule::NotTriedAgain => "EAGAIN, and the page was not tried again",
             Rule::PageOwed => "registered pages are still missing",
+            Rule::Page => "what happened to the page",
         }
     }
 
@@ -108,6 +115,7 @@ impl Rule {
             Rule::Unexplained => Severity::Unexplained,
             Rule::PutTwiceWoken => Severity::Note,
             Rule::PageOwed if !asked.expects_all => Severity::Note,
+            Rule::Page => Severity::Page,
             _ => Severity::Fault,
         }
     }
@@ -118,6 +126,7 @@ impl Rule {
     {
         match self.severity(asked) {
             Severity::Note => asked.strict,
+            Severity::Page => false,
             _ => true,
         }
     }
@@ -151,6 +160,7 @@ impl Rule {
                 "the page was to be put once the map call was over, and the guest reads zeros there (LINUX.md, For authors of a handler)"
             }
             Rule::PageOwed => "the guest reads zeros there (LINUX.md, For authors of a handler)",
+            Rule::Page => "what happened to the page in the run that was found",
         }
     }
 }

@@ -5,6 +5,7 @@
 pub(crate) mod index;
 
 use crate::accesses::Shown;
+use crate::history::{Doing, History};
 use crate::kernel::{Kernel, is_present};
 use crate::needs::Wanted;
 use crate::run::Run;
@@ -68,10 +69,12 @@ pub(crate) struct Search {
     pub(crate) unexplained: Vec<Unexplained>,
     /// The line of the log that is looked at.
     pub(crate) line: u32,
+    pub(crate) history: History,
 }
 
 impl Search {
-    pub(crate) fn new(alloc: Global, log: Log) -> Result<Search, NoMemory> {
+    /// Nothing is done yet. `page` is that whose history is noted, if any.
+    pub(crate) fn new(alloc: Global, log: Log, page: Option<u64>) -> Result<Search, NoMemory> {
         let index = Index::new(alloc, &log)?;
         let kernel = Kernel::new(alloc, &log)?;
         Ok(Search {
@@ -91,6 +94,7 @@ impl Search {
             strangers: 0,
             unexplained: Vec::new(alloc),
             line: 0,
+            history: History::new(alloc, page),
         })
     }
 
@@ -149,6 +153,9 @@ impl Search {
         if call.has_effect() && !call.done {
             self.carry_out(Task::Settle(place))?;
         }
+        if call.is_beyond_rules() {
+            self.believe(place, &call)?;
+        }
         let key = u64::from(place);
         if !self.kernel.rules.is_told_all(key) {
             self.carry_out(others(Wanted::Events))?;
@@ -159,6 +166,15 @@ impl Search {
             self.step(Move::Clears { key: place })?;
         }
         self.end_telling(place)
+    }
+
+    /// A call has returned of which no rule speaks.
+    fn believe(&mut self, place: u32, call: &LogCall) -> Result<(), NoMemory> {
+        let seen = self.seen_by_call(call);
+        if has_put(call) {
+            self.kernel.believe(&self.log, place, call)?;
+        }
+        self.note_doing(Doing::Call(place), seen)
     }
 
     /// A call has returned. Where it is a map call that has told objects, it is the last moment for those which these refused with EAGAIN because of it.
@@ -172,9 +188,11 @@ impl Search {
 
     /// A step that the log does not show. Whether the rules allow it.
     pub(crate) fn step(&mut self, step: Move) -> Result<bool, NoMemory> {
+        let seen = self.seen_by_step(step);
         let made = self.kernel.make(&self.log, step)?;
         if made {
             self.run.add_unseen(step)?;
+            self.note_doing(Doing::Step(step), seen)?;
         }
         Ok(made)
     }
@@ -203,8 +221,10 @@ impl Search {
         if self.placed == Some(place) {
             self.placed = None;
         } else {
+            let seen = self.seen_by_call(&call);
             self.judge(frame, &call)?;
             self.run.add_effect(place)?;
+            self.note_doing(Doing::Call(place), seen)?;
         }
         self.finish(place, &call, step)
     }

@@ -126,7 +126,7 @@ impl Search {
     fn prepare(&mut self, place: u32, call: &LogCall) -> Result<(), NoMemory> {
         match call.call {
             Call::Mmap { .. } | Call::Munmap { .. } | Call::Mremap { .. } | Call::Madvise { .. } =>
-                self.prepare_map_call(call),
+                self.prepare_map_call(place, call),
             Call::Copy { .. } | Call::ZeroPage { .. } => {
                 self.plan(Task::Install(place))?;
                 self.plan_reads_before(call)
@@ -165,7 +165,7 @@ impl Search {
         self.plan(others(Wanted::MissingFaults { object, range }))
     }
 
-    fn prepare_map_call(&mut self, call: &LogCall) -> Result<(), NoMemory> {
+    fn prepare_map_call(&mut self, place: u32, call: &LogCall) -> Result<(), NoMemory> {
         let (Some(range), true) = (self.log.pages_of(call), call.is_ok()) else {
             return Ok(());
         };
@@ -177,7 +177,11 @@ impl Search {
         } else if line > 0 {
             self.plan(others(Wanted::PutBefore { space, range, line }))?;
         }
-        self.plan(others(Wanted::FaultsOfSpace { space, range }))
+        self.plan(others(Wanted::FaultsOfSpace {
+            space,
+            range,
+            by: place,
+        }))
     }
 
     fn prepare_unregister(&mut self, call: &LogCall) -> Result<(), NoMemory> {
@@ -234,7 +238,10 @@ impl Search {
                 self.make_registered(object, first)
             }
             Some(Errno::Enoent) => self.make_unregistered(object, range),
-            Some(Errno::Eagain) => self.make_changing(object),
+            Some(Errno::Eagain) => match call.woken(self.log.size) {
+                Some(put) => self.prepare_part(place, object, put),
+                None => self.make_changing(object),
+            },
             _ => Ok(()),
         }
     }
@@ -267,6 +274,15 @@ impl Search {
         self.plan(Task::Foresee(place))?;
         self.plan(Task::ReadEvents(object))?;
         self.plan(Task::MakeMissing { space, range })
+    }
+
+    /// The pages that a call has put before it stopped are missing, and registered.
+    fn prepare_part(&mut self, place: u32, object: u64, put: Range) -> Result<(), NoMemory> {
+        if let Some(space) = self.kernel.space_of(object) {
+            self.plan(Task::Foresee(place))?;
+            self.plan(Task::MakeMissing { space, range: put })?;
+        }
+        self.make_registered(object, put)
     }
 
     /// A page that is missing is put by a call that is under way, where there is one; and one of which nothing is known by a call that puts all

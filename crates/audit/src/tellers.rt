@@ -103,7 +103,7 @@ impl Search {
     }
 
     /// Whether an event may be of a call, by its kind and its pages.
-    fn may_tell(&self, call: &LogCall, object: u64, message: Message) -> bool {
+    pub(crate) fn may_tell(&self, call: &LogCall, object: u64, message: Message) -> bool {
         if self.kernel.space_of(object) != Some(call.space) {
             return false;
         }

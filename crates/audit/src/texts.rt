@@ -11,7 +11,7 @@ use std::alloc::Global;
 const SAID: usize = 3;
 
 /// What faults with these flags are called.
-fn kind_of(flags: u64) -> &'static str {
+pub(crate) fn kind_of(flags: u64) -> &'static str {
     for (kind, name) in KINDS {
         if *kind == flags {
             return name;
@@ -73,7 +73,18 @@ fn add_case(text: &mut String, size: PageSize, case: &Case) -> Result<(), NoMemo
     if let Some(reason) = case.reason {
         write!(text, ": {reason}")?;
     }
+    if let Some(change) = case.change {
+        write!(text, ": {change}")?;
+    }
     Ok(())
+}
+
+/// What happened to a page.
+pub(crate) fn page_text(alloc: Global, size: PageSize, case: &Case) -> Result<String, NoMemory> {
+    let mut text = String::new(alloc);
+    text.push_str(": ")?;
+    add_case(&mut text, size, case)?;
+    Ok(text)
 }
 
 /// Adds what some cases have in common, of which this is the first.
@@ -130,7 +141,11 @@ fn add_moment(text: &mut String, name: &str, moment: Option<Moment>) -> Result<(
 }
 
 /// Adds the fields of a case that say where it is.
-fn add_place_fields(text: &mut String, size: PageSize, case: &Case) -> Result<(), NoMemory> {
+pub(crate) fn add_place_fields(
+    text: &mut String,
+    size: PageSize,
+    case: &Case,
+) -> Result<(), NoMemory> {
     if let Some(object) = case.object {
         write!(text, ", \"object\": {object}")?;
     }
@@ -166,6 +181,13 @@ pub(crate) fn json_text(alloc: Global, size: PageSize, case: &Case) -> Result<St
     add_moment(&mut text, "until", case.until)?;
     if let Some(reason) = case.reason {
         write!(text, ", \"reason\": \"{reason}\"")?;
+    }
+    if let Some(change) = case.change {
+        let (before, after) = (change.before, change.after);
+        write!(text, ", \"before\": \"{before}\", \"after\": \"{after}\"")?;
+        if let Some(answer) = change.answer {
+            write!(text, ", \"answer\": \"{answer}\"")?;
+        }
     }
     text.push_str("}")?;
     Ok(text)

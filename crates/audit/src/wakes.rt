@@ -34,10 +34,10 @@ fn twice_of(log: &Log, place: u64) -> Option<Twice> {
 /// Notes a call that returned, where it wakes the threads at pages of these calls, which are in the order of objects and pages. One that ends
 /// the registration is no answer to them.
 fn note_wake(twice: &mut Vec<Twice>, log: &Log, call: &LogCall) {
-    if !call.is_waking() || matches!(call.call, Call::Unregister { .. }) {
+    if matches!(call.call, Call::Unregister { .. }) {
         return;
     }
-    let (Some(object), Some(range)) = (call.object(), log.pages_of(call)) else {
+    let (Some(object), Some(range)) = (call.object(), call.woken(log.size)) else {
         return;
     };
     let first = twice.partition_point(|one| (one.object, one.page) < (object, range.first));

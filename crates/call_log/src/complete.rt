@@ -78,6 +78,8 @@ struct Known {
     shaken: IndexSet<u64>,
     /// The objects that were open before the log begins, with the address space of the first call on each.
     found: IndexMap<u64, u32>,
+    /// The objects that calls are made on, with the line where the last of these begins.
+    used: IndexMap<u64, u32>,
 }
 
 impl Known {
@@ -89,6 +91,7 @@ impl Known {
             opened: IndexSet::new(alloc),
             shaken: IndexSet::new(alloc),
             found: IndexMap::new(alloc),
+            used: IndexMap::new(alloc),
         }
     }
 
@@ -120,6 +123,9 @@ impl Known {
 
     /// What one call says.
     fn add(&mut self, call: &LogCall) -> Result<(), NoMemory> {
+        if let Some(object) = call.object() {
+            self.used.insert(object, call.begin)?;
+        }
         match (call.call, call.answer) {
             (Call::Register { start, len, .. }, _) if call.is_ok() => {
                 self.ranges.insert(Registered {
@@ -188,6 +194,9 @@ impl Known {
     /// Whether the rules speak of a call: not where the log has seen its object neither open nor make its handshake, and not where its range
     /// is too long. A map call takes no more pages away than there are, and only mremap makes any registered.
     fn is_judged(&self, table: &CallTable, call: &LogCall) -> bool {
+        if call.is_beyond_rules() {
+            return false;
+        }
         if call.is_map_call() {
             return match call.call {
                 Call::Mremap { new_len, .. } => {
@@ -204,6 +213,19 @@ impl Known {
         match call.object() {
             Some(object) => self.opened.contains(&object) || self.shaken.contains(&object),
             None => true,
+        }
+    }
+
+    /// Whether a call has closed its object for good: the log has seen no other descriptor of it, and no call on it begins below that. A process
+    /// that got one by a socket may use it before the log says so.
+    fn is_last(&self, call: &LogCall) -> bool {
+        let used = match call.object() {
+            Some(object) => self.used.get(&object).copied(),
+            None => None,
+        };
+        match used {
+            Some(line) => call.last && line <= call.end,
+            None => call.last,
         }
     }
 
@@ -257,8 +279,10 @@ fn settle(known: &Known, table: &mut CallTable, entries: &mut EntryReader) -> Re
         };
         let space = known.space_of(table, &call);
         let judged = known.is_judged(table, &call);
+        let last = known.is_last(&call);
         if let Some(kept) = table.places.get_mut(place) {
             kept.judged = judged;
+            kept.last = last;
             entries.settle(kept.begin as usize, space, kept.last)?;
         }
     }

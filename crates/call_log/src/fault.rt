@@ -11,8 +11,11 @@ pub enum LogFault {
     #[error("not a log: the first line is not 'uffdlog 1'")]
     NotALog,
     /// The first line is one of strace's. Nothing was written.
-    #[error("not a log, but what strace writes: audit/from-strace makes a log of it")]
+    #[error("not a log, but what strace writes")]
     StraceOutput,
+    /// The first bytes are those of a file that gzip has packed. Nothing was written.
+    #[error("not a log, but packed: unpack it, as by 'zcat FILE | ./postmig audit'")]
+    Packed,
     /// There is no line. Nothing was written.
     #[error("not a log: it is empty")]
     Empty,

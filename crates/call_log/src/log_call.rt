@@ -1,6 +1,6 @@
 //! A call of a log, with how it ended.
 
-use crate::pages::PageSize;
+use crate::pages::{PageSize, Range};
 use uffd_log::{Answer, Call, Errno, Message};
 
 /// UFFDIO_COPY_MODE_DONTWAKE and UFFDIO_ZEROPAGE_MODE_DONTWAKE.
@@ -160,7 +160,7 @@ impl LogCall {
         }
     }
 
-    /// Whether it wakes the threads that sleep at its pages.
+    /// Whether it wakes threads that sleep at its pages: an install that stopped, at those that it has put.
     pub fn is_waking(&self) -> bool {
         let wakes = match self.call {
             Call::Copy { mode, .. } | Call::ZeroPage { mode, .. } => mode & DONTWAKE == 0,
@@ -168,12 +168,33 @@ impl LogCall {
             Call::Wake { .. } | Call::Unregister { .. } => true,
             _ => false,
         };
-        wakes && self.is_ok()
+        wakes && has_put(self)
+    }
+
+    /// The pages at which it wakes threads, if it does.
+    pub fn woken(&self, size: PageSize) -> Option<Range> {
+        if !self.is_waking() {
+            return None;
+        }
+        let (start, len) = self.bytes()?;
+        let done = match self.answer {
+            Some(
+                Answer::Failed {
+                    bytes: Some(bytes),
+                    ..
+                },
+            ) => bytes.min(len),
+            _ => len,
+        };
+        Some(size.range(start, done))
     }
 
     /// Whether it wakes the threads that sleep at a page of an object.
     pub fn wakes(&self, size: PageSize, object: u64, page: u64) -> bool {
-        self.is_waking() && self.object() == Some(object) && self.covers(size, page)
+        match self.woken(size) {
+            Some(range) => self.object() == Some(object) && range.contains(page),
+            None => false,
+        }
     }
 
     /// Whether a page is among those that it is of.

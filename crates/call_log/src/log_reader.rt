@@ -71,10 +71,15 @@ fn may_be(number: u32, bytes: &[u8], ended: bool) -> bool
     ended && bytes == FIRST_LINE
 }
 
+/// How a packed file begins (RFC 1952, section 2.3.1).
+const PACKED: &[u8] = &[0x1f, 0x8b];
+
 /// Why an input is no log whose first line is this.
 fn no_log_fault(bytes: &[u8]) -> LogFault {
     if is_of_strace(bytes) {
         LogFault::StraceOutput
+    } else if bytes.starts_with(PACKED) {
+        LogFault::Packed
     } else {
         LogFault::NotALog
     }

@@ -1,24 +1,22 @@
-//! What a command reads.
+//! What a run reads.
 
 use crate::terminal::Terminal;
-use std::fs::File;
 use std::io;
-use std::io::{Read, Stdin};
+use std::io::Read;
+use streams::Input;
 
-/// Standard input, or a script that is typed, or a file that was opened.
+/// The script of a run: an input, or one that is typed.
 #[derive(Drop)]
-pub enum Input {
-    Standard(Stdin),
+pub enum Script {
+    Given(Input),
     Typed(Terminal),
-    File(File),
 }
 
-impl Read for Input {
+impl Read for Script {
     fn read(&mut self, buf: &mut [u8]) -> io::Result<usize> {
         match self {
-            Input::Standard(stdin) => stdin.read(buf),
-            Input::Typed(terminal) => terminal.read(buf),
-            Input::File(file) => file.read(buf),
+            Script::Given(input) => input.read(buf),
+            Script::Typed(terminal) => terminal.read(buf),
         }
     }
 }

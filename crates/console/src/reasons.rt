@@ -2,15 +2,15 @@
 
 use crate::bounded::{Bounded, LONGEST_LISTED};
 use crate::paint::{Painted, paint_for};
-use crate::streams::Given;
 use engine::script_reader::{MAX_LINE, split_line, without_return};
 use expected::order_part;
 use grammar::parse::parse;
 use grammar::{Language, Token};
 use lint::{lint_lines, reason_of};
 use std::fs::File;
-use std::io::{IsTerminal, Read, Stderr, Write};
+use std::io::{Read, Stderr, Write};
 use std::{fs, io};
+use streams::{Given, gives_reasons};
 
 /// What is wrong with a line of a test where a comment or nothing is in place of its order.
 const NO_ORDER: &str = "no order stands before the answer, or N of `# cpus N` is not 1 to 16";
@@ -39,12 +39,6 @@ impl Write for OneLine {
     fn flush(&mut self) -> io::Result<()> {
         self.stderr.flush()
     }
-}
-
-/// Whether the reasons of all faults are said: with `--explain`, or at a terminal. Otherwise they are said of a FILE alone, so that a
-/// program that names none can compare all of standard error.
-pub(crate) fn gives_reasons(rt: &HostRuntime, given: Given<'_>) -> bool {
-    given.explains || rt.stderr().is_terminal()
 }
 
 /// Opens a FILE once more. None if it is not a regular file: what a pipe had is gone.

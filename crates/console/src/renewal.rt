@@ -3,17 +3,17 @@
 ghost use Rattle.std.specs.Prelude.{◌≡◌, ◌≤◌};
 ghost use Rattle.console.specs.Status.{files_status};
 
+use crate::endings::{end_files, end_looked, end_test};
 use crate::scripts::Scripts;
-use crate::status::{ALL_DONE, BAD_COMMAND_OR_SCRIPT, status_of};
-use crate::streams::{end_files, end_looked, end_test, open_file, open_output};
+use crate::status::status_of;
 use crate::tally::NO_ANSWER;
-use crate::watched::{Watched, say_reason};
 use engine::RunFault;
 use engine::line_runner::write_out;
 use expected::{Renewed, renew_answers};
 use std::alloc::Global;
 use std::fs::File;
 use std::io::{Read, Stdout, Write};
+use streams::{ALL_DONE, BAD_COMMAND_OR_SCRIPT, Watched, open_file, open_output, say_reason};
 
 /// Replaces what a file has by a text. Says on standard error why that failed; the file may then have a part of the text.
 fn write_file(rt: &HostRuntime, name: &str, text: &[u8]) -> bool {

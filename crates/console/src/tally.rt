@@ -3,18 +3,20 @@
 ghost use Rattle.std.specs.Prelude.{◌≡◌, ◌≤◌};
 ghost use Rattle.console.specs.Status.{tally_status};
 
+use crate::endings::{end_files, end_test, say_nothing};
 use crate::findings::Findings;
-use crate::input::Input;
 use crate::paint::{Paint, Painted, paint_for};
 use crate::scripts::Scripts;
-use crate::status::{ALL_DONE, NO_FLAT_RUN, NOTHING_TO_JUDGE, status_of};
-use crate::streams::{end_files, end_test, open_named, open_output, say_nothing, standard_input};
-use crate::watched::Watched;
+use crate::status::status_of;
 use engine::RunFault;
 use expected::{Outcome, Tested, list_differences, test_script};
 use std::alloc::Global;
 use std::io;
 use std::io::{Read, Stdout, Write};
+use streams::{
+    ALL_DONE, Input, NO_FLAT_RUN, NOTHING_TO_JUDGE, Watched, open_named, open_output,
+    standard_input,
+};
 
 /// What messages call standard input.
 const STANDARD: &str = "-";

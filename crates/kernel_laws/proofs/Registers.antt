@@ -23,7 +23,9 @@ use Rattle.kernel_rules.specs.declared.object.Object.{Object}
 use Rattle.kernel_rules.specs.Faults.{sleeps_in, woken}
 use Rattle.kernel_rules.specs.Ioctls as rules
 use Rattle.kernel_rules.specs.Ioctls.{has_calls, is_mode, is_offer, may_shake, shaken, with_handshake}
-use Rattle.kernel_rules.specs.Pages.{registered_page, without_object}
+use Rattle.kernel_rules.specs.Pages.{is_missing, is_present, known_as, registered_page, without_object}
+use Rattle.kernel_rules.specs.declared.known.Presence.{Presence}
+use Rattle.kernel_rules.specs.declared.known.Presence.TheVariants.{Unknown, Missing, Present}
 use Rattle.kernel_rules.specs.State.{Kernel, allowed, asked_for, is_enabled, is_range, is_within, noted_if, page_is, some_page, with_object}
 use Rattle.kernel_laws.specs.Agreement.{Agree, AgreesAt, AreMapped, AreUnread, IsPage, Takes, answer_of_api, answer_of_register, answer_of_wake}
 use Rattle.kernel_laws.proofs.Calls.{refused}
@@ -203,9 +205,20 @@ guarded-mode space first count page mode inside mapped not_all guarded = grind (
 some-mode : (m p : Bool) → (m || p) ≡ true → (a b : Bool) → (a || b) ≡ false → ((not m || a) && (not p || b)) ≡ false
 some-mode m p some a b none = grind (arith, nat_tests)
 
+missing-known : (missing : Bool) (presence : Presence) → is_missing (known_as missing presence) ≡ true → is_missing presence ≡ true
+missing-known missing Unknown h = h
+missing-known missing Missing h = refl
+missing-known missing Present h = h
+
+present-known : (missing : Bool) (presence : Presence) → is_present (known_as missing presence) ≡ true → is_present presence ≡ true
+present-known missing Unknown h = h
+present-known true Missing h = h
+present-known false Missing h = h
+present-known missing Present h = refl
+
 -- a page that the object had registered: it keeps its modes if it has all, or else has those
 page-again : (space : Space) (first count name page : ℕ) (mode : Mode) (all : Bool) (one : Page) → IsSoundSpace space → (mode.missing || mode.protect) ≡ true → in_range first count page ≡ true → contains_key space.host.areas page ≡ true → IsPage space name page one →
-    has_modes space.object page mode ≡ all → IsPage (registered_in space first count mode) name page (cond all one (record one { missing = mode.missing; protect = mode.protect; guarded = one.guarded && mode.protect }))
+    has_modes space.object page mode ≡ all → IsPage (registered_in space first count mode) name page (cond all one (record one { missing = mode.missing; protect = mode.protect; presence = known_as mode.missing one.presence; guarded = one.guarded && mode.protect }))
 page-again space first count name page mode true one sound some inside mapped agrees all =
     let modes = modes-of space first count page mode inside mapped (below_high space page sound mapped) in
     let missing = modes.0 ∙ ap (λ b. cond b (contains space.object.missing page) mode.missing) all in
@@ -228,8 +241,8 @@ page-again space first count name page mode false one sound some inside mapped a
       missing = sym missing;
       protect = sym protect;
       registered = (λ i. missing i || protect i) ∙ some;
-      absent = agrees.absent;
-      present = agrees.present;
+      absent = λ missing. agrees.absent (missing-known mode.missing one.presence missing);
+      present = λ there. agrees.present (present-known mode.missing one.presence there);
       guarded = λ guarded. and_from one.guarded mode.protect (agrees.guarded (guarded-left space first count page mode guarded)) (guarded-mode space first count page mode inside mapped all guarded);
     }
 

@@ -12,7 +12,7 @@ use Rattle.uffd_log.specs.declared.errno.Errno.{Errno}
 use Rattle.uffd_log.specs.declared.errno.Errno.TheVariants.{Eperm, Eagain, Enomem, Ebusy, Eexist, Einval, Other}
 use Rattle.uffd_log.specs.declared.call.Message.{Message}
 use Rattle.uffd_log.specs.declared.call.Message.TheVariants.{Fork, Remap, Unmap}
-use Rattle.kernel_rules.specs.Pages.{cleared_page, perhaps_cleared}
+use Rattle.kernel_rules.specs.Pages.{cleared_page, known_as, perhaps_cleared}
 use Rattle.kernel_rules.specs.declared.difference.Difference.TheVariants.{MessagesOfMremap}
 use Rattle.kernel_rules.specs.declared.known.Presence.TheVariants.{Unknown, Missing}
 use Rattle.kernel_rules.specs.declared.known.Page.{Page}
@@ -143,7 +143,7 @@ moved_page kernel (Some page) = if is_told kernel 2 page.object then Some page e
 
 -- a registered page without its bytes
 abbrev pub emptied : Page → Page
-emptied page = record page { presence = Missing; guarded = false; put = false }
+emptied page = record page { presence = known_as page.missing Missing; guarded = false; put = false }
 
 -- a page by which a range grows: registered as its last page is, and missing
 abbrev pub grown_page : Option Page → Option Page

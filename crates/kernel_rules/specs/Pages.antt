@@ -30,11 +30,17 @@ may_be_there page = not (is_missing page.presence) || not page.missing
 abbrev pub mode_of : ℕ → Mode
 mode_of bits = record { missing = is_one bits 0; protect = is_one bits 1 }
 
+-- what is known of a page that may have this presence: that it is missing only where it is registered for missing faults, since elsewhere
+-- a processor's touch fills it without a message
+abbrev pub known_as : Bool → Presence → Presence
+known_as missing presence = if is_missing presence && not missing then Unknown else presence
+
 -- a page once it is registered: one that has all modes asked for keeps its own
 abbrev pub with_mode : Mode → Page → Page
 with_mode mode page =
     if (not mode.missing || page.missing) && (not mode.protect || page.protect) then page
-    else record page { missing = mode.missing; protect = mode.protect; guarded = page.guarded && mode.protect }
+    else
+    record page { missing = mode.missing; protect = mode.protect; presence = known_as mode.missing page.presence; guarded = page.guarded && mode.protect }
 
 -- a page once an object has registered it in this mode: nothing is known of its presence, if it was not registered before
 abbrev pub registered_page : ℕ → Mode → Option Page → Option Page
@@ -69,9 +75,9 @@ is_unknown Missing = false
 is_unknown Unknown = true
 is_unknown Present = false
 
--- a page of which a recorder has found this: it settles what is not known. That no bit is set says something of a page that nobody touches
+-- a page of which a recorder has found this: it settles what is not known
 abbrev pub settled : Presence → Page → Page
-settled found page = if is_unknown page.presence && (not (is_missing found) || page.missing) then record page { presence = found } else page
+settled found page = if is_unknown page.presence then record page { presence = known_as page.missing found } else page
 
 -- UFFD_PAGEFAULT_FLAG_WP
 abbrev pub is_of_protection : ℕ → Bool
@@ -82,6 +88,6 @@ abbrev pub shown : Bool → Page → Page
 shown true page = record page { presence = Present }
 shown false page = record page { presence = Missing; guarded = false }
 
--- a page once it is cleared
+-- a page once it is cleared, or may be
 abbrev pub cleared_page : Presence → Page → Page
-cleared_page presence page = record page { presence = presence; guarded = false }
+cleared_page presence page = record page { presence = known_as page.missing presence; guarded = false }

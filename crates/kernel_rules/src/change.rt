@@ -4,7 +4,7 @@ ghost use Rattle.std.specs.Prelude.{◌≡◌, Some};
 ghost use Rattle.kernel_rules.specs.Changes.{changed};
 ghost use Rattle.kernel_rules.specs.Pages.{cleared_page, perhaps_cleared, perhaps_protected, protected_page, put_page, registered_page, settled, shown};
 
-use crate::known::{Page, Presence};
+use crate::known::{Page, Presence, known_as};
 
 /// A change of a page, which may be registered or not.
 #[derive(Clone, Copy)]
@@ -72,11 +72,15 @@ fn registered(page: Option<Page>, object: u64, missing: bool, protect: bool) -> 
             if (!missing || page.missing) && (!protect || page.protect) {
                 page
             } else {
-                Page {
+                let found = Page {
                     missing,
                     protect,
                     guarded: page.guarded && protect,
                     ..page
+                };
+                Page {
+                    presence: known_as(found, page.presence),
+                    ..found
                 }
             }
         }
@@ -87,17 +91,9 @@ fn registered(page: Option<Page>, object: u64, missing: bool, protect: bool) -> 
 fn settled_by(page: Page, found: Presence) -> Page
     ensures { result ≡ settled found page }
 {
-    match (page.presence, found) {
-        (Presence::Unknown, Presence::Missing) => if page.missing {
-            Page {
-                presence: found,
-                ..page
-            }
-        } else {
-            page
-        },
-        (Presence::Unknown, _) => Page {
-            presence: found,
+    match page.presence {
+        Presence::Unknown => Page {
+            presence: known_as(page, found),
             ..page
         },
         _ => page,
@@ -134,7 +130,7 @@ fn cleared(page: Page, presence: Presence) -> Page
     ensures { result ≡ cleared_page presence page }
 {
     Page {
-        presence,
+        presence: known_as(page, presence),
         guarded: false,
         ..page
     }
@@ -150,7 +146,11 @@ fn faulted(page: Page, protected: bool) -> Page
             ..page
         }
     } else {
-        cleared(page, Presence::Missing)
+        Page {
+            presence: Presence::Missing,
+            guarded: false,
+            ..page
+        }
     }
 }
 

@@ -1,5 +1,8 @@
 //! What is known of pages and of faults.
 
+ghost use Rattle.std.specs.Prelude.{◌≡◌};
+ghost use Rattle.kernel_rules.specs.Pages.{known_as};
+
 /// Whether a page is present. One that is not registered for missing faults may be touched at any time, so nothing is known of it until
 /// a call shows it.
 #[derive(Clone, Copy)]
@@ -24,6 +27,17 @@ pub struct Page {
     pub guarded: bool,
     /// Whether a call of the log has put it.
     pub put: bool,
+}
+
+/// What is known of the presence of a page that may have this one: where it is not registered for missing faults a processor's touch fills it
+/// without a message.
+pub(crate) fn known_as(page: Page, presence: Presence) -> Presence
+    ensures { result ≡ known_as page.missing presence }
+{
+    match presence {
+        Presence::Missing if !page.missing => Presence::Unknown,
+        _ => presence,
+    }
 }
 
 /// How far a thread's fault has come.

@@ -10,7 +10,7 @@ use crate::answers::is_fork_error;
 use crate::change::Change;
 use crate::difference::Difference;
 use crate::kernel_table::KernelTable;
-use crate::known::{Page, Presence};
+use crate::known::{Page, Presence, known_as};
 use crate::map_calls::{is_mappable, pages_of};
 use mig_base::flags::has_bit;
 use mig_base::{NoMemory, PAGE_SIZE};
@@ -25,7 +25,7 @@ fn grown(page: Option<Page>) -> Option<Page>
 {
     match page {
         Some(page) => Some(Page {
-            presence: Presence::Missing,
+            presence: known_as(page, Presence::Missing),
             guarded: false,
             put: false,
             ..page

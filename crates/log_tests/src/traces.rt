@@ -156,9 +156,12 @@ fn judged(
         late_after: Some(1),
         strict: false,
         expects_all: false,
+        page: None,
+        traces: false,
         form: Form::Text,
     };
-    let answer = audit_input(alloc, &mut reader, &mut writer, NAME, asked);
+    let mut events = Vec::new(alloc);
+    let answer = audit_input(alloc, &mut reader, &mut writer, NAME, asked, &mut events);
     Ok((answer, writer))
 }
 

@@ -180,9 +180,12 @@ fn judged(
         late_after: Some(1),
         strict: false,
         expects_all: false,
+        page: None,
+        traces: false,
         form: Form::Text,
     };
-    let answer = audit_log(alloc, &mut reader, &mut writer, "log", asked);
+    let mut events = Vec::new(alloc);
+    let answer = audit_log(alloc, &mut reader, &mut writer, "log", asked, &mut events);
     Ok((answer, writer))
 }
 

@@ -9,10 +9,8 @@ use clap::ArgMatches;
 use clap::error::ErrorKind;
 use command_line::{Shell, command_line, completion};
 use console::{
-    ALL_DONE, BAD_COMMAND_OR_SCRIPT, Bounded, Given, Input, LONGEST_LISTED, NO_FLAT_RUN, NO_MEMORY,
-    Painted, READ_OR_WRITE_FAULT, Scripts, Tap, TestAsks, Watched, can_tap, end, end_at_lines,
-    end_lint, end_looked, make_tap, name_bad_argument, open_input, open_output, open_script,
-    paint_for, renew_files, say_looked, say_wrong_line, test_files,
+    Bounded, LONGEST_LISTED, Painted, Script, Scripts, TestAsks, end, end_at_lines, end_lint,
+    end_looked, open_script, paint_for, renew_files, say_looked, say_wrong_line, test_files,
 };
 use draw::run_draw;
 use engine::line_runner::write_out;
@@ -34,6 +32,10 @@ use std::process::ExitCode;
 use std::sync::Wait;
 use std::thread::Threads;
 use std::{env, io};
+use streams::{
+    ALL_DONE, BAD_COMMAND_OR_SCRIPT, Given, NO_FLAT_RUN, NO_MEMORY, READ_OR_WRITE_FAULT, Tap,
+    Watched, can_tap, make_tap, name_bad_argument, open_input, open_output,
+};
 use threads::{Run, run_threads};
 use wiretap::{Taps, run_tapped};
 
@@ -126,7 +128,7 @@ fn run(rt: &HostRuntime, matches: &ArgMatches) -> u8
 /// Writes each script of an input with the answer of each line: as a test, or in a column beside it.
 fn answer_scripts(
     rt: &HostRuntime,
-    scripts: &mut Scripts<Watched<'_, Input>>,
+    scripts: &mut Scripts<Watched<'_, Script>>,
     output: &mut Watched<'_, Stdout>,
     cpus: u8,
     matches: &ArgMatches,
@@ -154,7 +156,7 @@ fn answer_scripts(
 fn run_with_answers(
     rt: &HostRuntime,
     matches: &ArgMatches,
-    input: Watched<'_, Input>,
+    input: Watched<'_, Script>,
     output: &mut Watched<'_, Stdout>,
     cpus: u8,
 ) -> u8
@@ -183,7 +185,7 @@ fn run_with_taps(
     rt: &HostRuntime,
     given: Given<'_>,
     names: &[Option<&str>; 3],
-    input: &mut Watched<'_, Input>,
+    input: &mut Watched<'_, Script>,
     output: &mut Watched<'_, Stdout>,
     cpus: u8,
     mode: Mode,

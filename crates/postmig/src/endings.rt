@@ -5,14 +5,12 @@ ghost use Rattle.postmig.specs.Status.{frames_fault_status, tap_fault_status};
 
 use crate::commands::NO_LINE;
 use crate::status::frames_status_of;
-use console::{
-    ALL_DONE, Bounded, Given, Input, READ_OR_WRITE_FAULT, Tap, Watched, end, end_at_lines,
-    end_looked, say_input, say_looked, say_output,
-};
+use console::{Bounded, Script, end, end_at_lines, end_looked, say_looked};
 use engine::RunFault;
 use frames::FramesFault;
 use grammar::Language;
 use std::io::Stdout;
+use streams::{ALL_DONE, Given, Input, READ_OR_WRITE_FAULT, Tap, Watched, say_input, say_output};
 use wiretap::{Channel, TapFault, Taps};
 
 /// Says on standard error why frames were not taken to their end, and returns the exit status.
@@ -62,7 +60,7 @@ pub(crate) fn end_script(
 pub(crate) fn end_tapped(
     rt: &HostRuntime,
     given: Given<'_>,
-    input: &Watched<'_, Input>,
+    input: &Watched<'_, Script>,
     output: &Watched<'_, Stdout>,
     taps: &Taps<Watched<'_, Tap>>,
     outcome: Result<(), TapFault>,

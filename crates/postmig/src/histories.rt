@@ -5,16 +5,16 @@ ghost use Rattle.postmig.specs.Status.{history_status, history_fault_status};
 
 use crate::commands::given_by;
 use clap::ArgMatches;
-use console::{
-    ALL_DONE, BAD_COMMAND_OR_SCRIPT, Given, Input, NO_FLAT_RUN, NOTHING_TO_JUDGE,
-    READ_OR_WRITE_FAULT, UNDECIDED, Watched, can_tap, end, make_tap, open_input, open_output,
-    status_of,
-};
+use console::{end, status_of};
 use engine::RunFault;
 use history_judge::{
     HistoryFault, Judged, Verdict, judge_history, write_picture, write_transcript,
 };
 use std::io::Stdout;
+use streams::{
+    ALL_DONE, BAD_COMMAND_OR_SCRIPT, Given, Input, NO_FLAT_RUN, NOTHING_TO_JUDGE,
+    READ_OR_WRITE_FAULT, UNDECIDED, Watched, can_tap, make_tap, open_input, open_output,
+};
 
 /// The exit status of a history that was judged.
 fn verdict_status_of(verdict: Verdict) -> u8

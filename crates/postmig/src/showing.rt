@@ -5,13 +5,14 @@ ghost use Rattle.std.specs.Prelude.{◌≤◌, IfSome};
 use crate::commands::given_by;
 use crate::endings::end_script;
 use clap::ArgMatches;
-use console::{BAD_COMMAND_OR_SCRIPT, Bounded, READ_OR_WRITE_FAULT, open_input, open_output};
+use console::Bounded;
 use engine::RunFault;
 use engine::script_reader::MAX_LINE;
 use grammar::Token;
 use grammar::token::read_tokens;
 use show::{Asked, Form, Span, What, show_script};
 use std::alloc::Global;
+use streams::{BAD_COMMAND_OR_SCRIPT, READ_OR_WRITE_FAULT, open_input, open_output};
 
 /// The number that a text spells, as a line of a script has it.
 fn number_of(alloc: Global, text: &str) -> Option<u64> {

@@ -3,8 +3,8 @@
 ghost use Rattle.std.specs.Prelude.{◌≡◌, ◌≤◌, IfErr, OnOk};
 ghost use Rattle.postmig.specs.Status.{frames_fault_status};
 
-use console::{ALL_DONE, BAD_COMMAND_OR_SCRIPT, NO_MEMORY, READ_OR_WRITE_FAULT};
 use frames::FramesFault;
+use streams::{ALL_DONE, BAD_COMMAND_OR_SCRIPT, NO_MEMORY, READ_OR_WRITE_FAULT};
 
 /// The exit status of frames that were handed to a destination.
 pub(crate) fn frames_status_of(outcome: Result<u64, FramesFault>) -> u8

@@ -83,7 +83,8 @@ TapFault::Run(Line(17)): line 17: not a script line
 TapFault::Run(NoMemory): no memory
 TapFault::Wire(Forward): write fault
 LogFault::NotALog: not a log: the first line is not 'uffdlog 1'
-LogFault::StraceOutput: not a log, but what strace writes: audit/from-strace makes a log of it
+LogFault::StraceOutput: not a log, but what strace writes
+LogFault::Packed: not a log, but packed: unpack it, as by 'zcat FILE | ./postmig audit'
 LogFault::Empty: not a log: it is empty
 LogFault::ReadFault: read fault
 LogFault::WriteFault: write fault
@@ -233,6 +234,7 @@ fn put_taps_and_logs(text: &mut String) -> fmt::Result {
         &[
             LogFault::NotALog,
             LogFault::StraceOutput,
+            LogFault::Packed,
             LogFault::Empty,
             LogFault::ReadFault,
             LogFault::WriteFault,

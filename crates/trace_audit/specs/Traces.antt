@@ -7,6 +7,7 @@ use Rattle.std.specs.Io.KnownBytes.{Appends}
 use Rattle.audit.specs.declared.audit.Asked.{Asked}
 use Rattle.audit.specs.declared.audit.Verdict.{Verdict}
 use Rattle.audit.specs.declared.audit.Verdict.TheVariants as verdict
+use Rattle.audit.specs.TraceEvents.{IsTraced}
 use Rattle.audit.specs.Verdicts.{Audits}
 use Rattle.strace_text.specs.declared.writer.Converted.{Converted}
 use Rattle.strace_text.specs.declared.writer.Refused.{Refused}
@@ -32,3 +33,14 @@ abbrev pub AuditsInput : Asked → List ℕ → List ℕ → Verdict → Option 
 AuditsInput asked name input said before after =
     Audits asked name input said before after
     ⊎ IsNoLog input × ((converted : Converted) × JudgesConverted asked name converted said before after)
+
+-- the trace events of its log were added, with the lines of the trace; or there is none, since lines of the trace cannot be read
+abbrev pub TracesConverted : Asked → List ℕ → Converted → Verdict → List ℕ → List ℕ → Type 0
+TracesConverted asked name converted said before after =
+    (said ≡ verdict.Wrong) × (after ≡ before)
+    ⊎ ((text : List ℕ) × IsTraced asked said [] text × (after ≡ before ++ shown_text name converted.lines.items text))
+
+-- the trace events of an input were added: of a log, or of what a trace was converted to
+abbrev pub TracesInput : Asked → Verdict → List ℕ → List ℕ → Type 0
+TracesInput asked said before after =
+    IsTraced asked said before after ⊎ ((name : List ℕ) × (converted : Converted) × TracesConverted asked name converted said before after)

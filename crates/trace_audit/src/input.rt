@@ -3,7 +3,7 @@
 ghost use Rattle.std.specs.Prelude.{◌≡◌, ◌++◌, List, ℕ, OnOk, IfOk, IfSome, IsTrue};
 ghost use Rattle.std.specs.Io.KnownBytes.{Consumes};
 ghost use Rattle.strace_text.specs.Traces.{IsNoLog};
-ghost use Rattle.trace_audit.specs.Traces.{AuditsInput};
+ghost use Rattle.trace_audit.specs.Traces.{AuditsInput, TracesInput};
 
 use crate::shown::split_at_byte;
 use crate::trace::judge_converted;
@@ -17,7 +17,7 @@ use strace_text::{convert, is_trace};
 /// The most bytes that are read at once.
 const PIECE: usize = 16_384;
 
-/// What a first line is, this number of its bytes shows.
+/// What a first line is, this number of its bytes shows: no line of a log has as many.
 const KNOWN: usize = 4096;
 
 /// Reads an input, and judges its calls. Of a log it writes what [`audit_log`] writes. What strace has written is converted to a log: where
@@ -26,26 +26,33 @@ const KNOWN: usize = 4096;
 ///
 /// Of a log, its calls, its entries and the run that was found are kept until it ends; of a trace, its text too until it is converted, and
 /// then the log and what is said of it. At most 4,294,967,295 lines are read; an input that needs more ends with a read fault. An
-/// interrupted read is a fault in a log, and so is an interrupted write. After a fault some of the text was written.
+/// interrupted read is a fault in a log, and so is an interrupted write. After a fault some of the text was written. Trace events are added
+/// to `events` as `audit_log` adds them.
 pub fn audit_input<R: Read, W: Write>(
     alloc: Global,
     reader: &mut R,
     writer: &mut W,
     name: &str,
     asked: Asked,
+    events: &mut Vec<u8>,
 ) -> Result<Verdict, LogFault>
-    ensures { IfOk result (λ verdict. IfSome (R.remaining reader.old) (λ input.
+    ensures audits { IfOk result (λ verdict. IfSome (R.remaining reader.old) (λ input.
         AuditsInput asked name.now input verdict (W.contents writer.old) (W.contents writer.new))) }
+    ensures traces { IfOk result (λ verdict.
+        TracesInput asked verdict events.old.items events.new.items) }
 {
     let front = read_front(alloc, reader)?;
     if begins_a_trace(&front) {
         let text = read_rest(reader, front)?;
         let converted = convert(alloc, &text)?;
         drop(text);
-        return judge_converted(alloc, writer, name, &converted, asked);
+        return judge_converted(writer, name, &converted, asked, events);
+    }
+    if front.len() >= KNOWN && !front.contains(&b'\n') {
+        return Err(LogFault::NotALog);
     }
     let mut whole = front.as_slice().chain(reader);
-    audit_log(alloc, &mut whole, writer, name, asked)
+    audit_log(alloc, &mut whole, writer, name, asked, events)
 }
 
 /// Reads until the first line has ended, or is known.

@@ -20,6 +20,7 @@ verdict_status wanted verdict.Nothing = 6
 abbrev pub fault_status : LogFault → ℕ
 fault_status log.NotALog = 2
 fault_status log.StraceOutput = 2
+fault_status log.Packed = 2
 fault_status log.Empty = 2
 fault_status log.ReadFault = 2
 fault_status log.WriteFault = 2

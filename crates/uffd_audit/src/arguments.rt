@@ -80,6 +80,20 @@ pub(crate) fn arguments<'a>(alloc: Global) -> Result<Command<'a>, AllocError> {
         "json",
         "Writes findings and summary as objects of JSON",
     );
+    let page = option(
+        alloc,
+        "page",
+        "ADDRESS",
+        ValueParser::String,
+        "Says after the findings what happened to the page of this address, in the run that was found",
+    );
+    let events = option(
+        alloc,
+        "trace-events",
+        "FILE",
+        ValueParser::String,
+        "Writes waits and findings to FILE too, as events for Perfetto or chrome://tracing",
+    );
     let file = Arg::new(alloc, "file")
         .help("Is read in place of standard input")
         .value_name("FILE");
@@ -96,5 +110,7 @@ pub(crate) fn arguments<'a>(alloc: Global) -> Result<Command<'a>, AllocError> {
         .arg(expect)?
         .arg(certified)?
         .arg(json)?
+        .arg(page)?
+        .arg(events)?
         .arg(file)
 }

@@ -5,7 +5,7 @@ ghost use Rattle.uffd_audit.specs.Status.{fault_status, verdict_status};
 
 use audit::Verdict;
 use call_log::LogFault;
-use console::{
+use streams::{
     ALL_DONE, BAD_COMMAND_OR_SCRIPT, NO_FLAT_RUN, NO_MEMORY, NOTHING_TO_JUDGE, READ_OR_WRITE_FAULT,
     UNDECIDED,
 };

@@ -6,8 +6,8 @@ use Rattle.audit.proofs.Certificates.{certificate_before}
 use Rattle.audit.proofs.Verdicts.{certified_fits, certified_goes, certified_whole}
 use Rattle.audit.proofs.audit.report_of.Goals as goal
 
-pub returns : goal.returns
-returns c = record {
+pub returns-clause-report : goal.returns-clause-report
+returns-clause-report c = record {
   found = _;
   made = _;
   prints = rw c.deref-2.ensures.value at c.in_ok-findings.ensures;

@@ -1,34 +1,19 @@
-//! What a command reads and writes, and how it says why it ended early.
+//! The script of a run, and how a command says why it ended early.
 
 ghost use Rattle.std.specs.Prelude.{◌≡◌, ◌≤◌, true, false, IfOk, IfErr, OnOk};
 ghost use Rattle.console.specs.Status.{answer_status, ends_tests, fault_status, lint_status, looked_status};
 
-use crate::input::Input;
-use crate::reasons::{gives_reasons, say_wrong_line, say_wrong_lines};
-use crate::status::{ALL_DONE, BAD_COMMAND_OR_SCRIPT, NOTHING_TO_JUDGE, status_of};
+use crate::input::Script;
+use crate::reasons::{say_wrong_line, say_wrong_lines};
+use crate::status::status_of;
 use crate::terminal::Terminal;
-use crate::watched::{Watched, say_reason};
 use engine::RunFault;
 use grammar::Language;
-use std::fs::File;
 use std::io::{IsTerminal, Stdout};
-
-/// What a command line says of a command's input.
-#[derive(Clone, Copy)]
-pub struct Given<'a> {
-    /// The FILE that it names. None: standard input.
-    pub file: Option<&'a str>,
-    /// Whether the reasons of all faults are said, as with `--explain`.
-    pub explains: bool,
-}
-
-/// Opens the FILE of a command, or standard input. Says on standard error why a file cannot be opened.
-pub fn open_input<'a>(rt: &HostRuntime, given: Given<'a>) -> Option<Watched<'a, Input>> {
-    match given.file {
-        None => Some(standard_input(rt)),
-        Some(name) => open_file(rt, name),
-    }
-}
+use streams::{
+    ALL_DONE, BAD_COMMAND_OR_SCRIPT, Given, NOTHING_TO_JUDGE, TOO_MANY_READS, Watched,
+    gives_reasons, open_input, say_input, say_output,
+};
 
 /// Opens the FILE of a run, or standard input. At a terminal a wrong line is named, and the run continues; an order may have an answer there
 /// where that is asked for.
@@ -36,67 +21,22 @@ pub fn open_script<'a>(
     rt: &HostRuntime,
     given: Given<'a>,
     has_answers: bool,
-) -> Option<Watched<'a, Input>> {
+) -> Option<Watched<'a, Script>> {
     let stdin = rt.stdin();
     if given.file.is_some() || !stdin.is_terminal() {
-        return open_input(rt, given);
+        let input = open_input(rt, given)?;
+        let name = input.name();
+        return Some(Watched::new(name, Script::Given(input.into_stream())));
     }
     let typed = Terminal::new(rt.alloc(), stdin, rt.stderr(), has_answers);
-    Some(Watched::new("standard input", Input::Typed(typed)))
-}
-
-/// Standard input.
-pub(crate) fn standard_input(rt: &HostRuntime) -> Watched<'static, Input> {
-    Watched::new("standard input", Input::Standard(rt.stdin()))
-}
-
-/// Opens a file, or standard input by the name `-`. Says on standard error why a file cannot be opened.
-pub(crate) fn open_named<'a>(rt: &HostRuntime, name: &'a str) -> Option<Watched<'a, Input>> {
-    if name == "-" {
-        return Some(standard_input(rt));
-    }
-    open_file(rt, name)
-}
-
-/// Opens a file. Says on standard error why it cannot be opened.
-pub(crate) fn open_file<'a>(rt: &HostRuntime, name: &'a str) -> Option<Watched<'a, Input>> {
-    match File::open(rt, name) {
-        Ok(file) => Some(Watched::new(name, Input::File(file))),
-        Err(error) => {
-            let _ = eprintln!(rt; "{}", RunFault::ReadFault);
-            let _ = say_reason(rt, name, &error);
-            None
-        }
-    }
-}
-
-/// Standard output.
-pub fn open_output(rt: &HostRuntime) -> Watched<'static, Stdout> {
-    Watched::new("standard output", rt.stdout())
-}
-
-/// Why reading ended where no read failed.
-const TOO_MANY_READS: &str = "more than 4294967295 reads";
-
-/// Says on standard error why no more could be read, always of a FILE.
-pub fn say_input(rt: &HostRuntime, given: Given<'_>, input: &Watched<'_, Input>) {
-    if given.file.is_some() || gives_reasons(rt, given) {
-        let _ = input.say_why(rt, TOO_MANY_READS);
-    }
-}
-
-/// Says on standard error why no more could be written.
-pub fn say_output(rt: &HostRuntime, given: Given<'_>, output: &Watched<'_, Stdout>) {
-    if gives_reasons(rt, given) {
-        let _ = output.say_why(rt, "no byte was taken");
-    }
+    Some(Watched::new("standard input", Script::Typed(typed)))
 }
 
 /// Says on standard error why a run or a check ended early, and returns its exit status.
-pub fn end(
+pub fn end<S>(
     rt: &HostRuntime,
     given: Given<'_>,
-    input: &Watched<'_, Input>,
+    input: &Watched<'_, S>,
     output: &Watched<'_, Stdout>,
     outcome: Result<bool, RunFault>,
 ) -> u8
@@ -116,10 +56,10 @@ pub fn end(
 }
 
 /// The same of a command that reads lines of a language: says also what is wrong with the line at which it ended.
-pub fn end_at_lines(
+pub fn end_at_lines<S>(
     rt: &HostRuntime,
     given: Given<'_>,
-    input: &Watched<'_, Input>,
+    input: &Watched<'_, S>,
     output: &Watched<'_, Stdout>,
     language: Language,
     outcome: Result<bool, RunFault>,
@@ -136,10 +76,10 @@ pub fn end_at_lines(
 }
 
 /// The same of a listing of wrong lines.
-pub fn end_lint(
+pub fn end_lint<S>(
     rt: &HostRuntime,
     given: Given<'_>,
-    input: &Watched<'_, Input>,
+    input: &Watched<'_, S>,
     output: &Watched<'_, Stdout>,
     outcome: Result<bool, RunFault>,
 ) -> u8
@@ -182,10 +122,10 @@ pub fn end_looked(rt: &HostRuntime, name: &str, what: &str, status: u8, has_look
 }
 
 /// Says on standard error why a test could not be run to its end. A fault that ends all tests is returned.
-pub(crate) fn end_test(
+pub(crate) fn end_test<S>(
     rt: &HostRuntime,
     name: &str,
-    input: &Watched<'_, Input>,
+    input: &Watched<'_, S>,
     fault: RunFault,
 ) -> Result<(), RunFault>
     ensures said { OnOk result (ends_tests fault ≡ false) }

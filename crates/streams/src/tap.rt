@@ -1,7 +1,6 @@
-//! The files that get what is put on the wires of a run.
+//! Files that get what a command writes beside its output, as what is put on the wires of a run.
 
 use crate::watched::{Watched, say_reason};
-use engine::RunFault;
 use std::fs::{File, Metadata};
 use std::io::Write;
 use std::os::unix::fs::MetadataExt;
@@ -53,7 +52,7 @@ fn is_input(rt: &HostRuntime, input: &str, name: &str) -> bool {
 
 /// Says on standard error why no file for a wire is made.
 fn say_why_not(rt: &HostRuntime, name: &str, reason: &str) {
-    let _ = eprintln!(rt; "{}", RunFault::WriteFault);
+    let _ = eprintln!(rt; "write fault");
     let _ = eprintln!(rt; "{name}: {reason}");
 }
 
@@ -101,7 +100,7 @@ pub fn make_tap<'a>(rt: &HostRuntime, name: Option<&'a str>) -> Option<Watched<'
     match File::create(rt, name) {
         Ok(file) => Some(Watched::new(name, Tap::File(file))),
         Err(error) => {
-            let _ = eprintln!(rt; "{}", RunFault::WriteFault);
+            let _ = eprintln!(rt; "write fault");
             let _ = say_reason(rt, name, &error);
             None
         }

@@ -4,12 +4,13 @@
 //! line says how many lines of the input were read. It is written anew at most once a second, when a read returns, and once more when the
 //! input has ended. It is erased before anything else is written: findings go to standard output, which is often the same terminal.
 
-use crate::input::Input;
-use crate::watched::Watched;
+ghost use Rattle.std.specs.Prelude.{◌≡◌, ◌≤◌, false, IfSome, IsTrue};
+
 use std::cell::Cell;
 use std::io::{IsTerminal, Read, Write};
 use std::time::Instant;
 use std::{fs, io};
+use streams::{Input, Watched};
 
 /// The longest name of an input that the line shows, in bytes, so that it fits the 80 columns of a terminal.
 const LONGEST_NAME: usize = 32;
@@ -19,14 +20,14 @@ const NAMELESS: &str = "the input";
 
 /// The line of the terminal. Reader and writer of a command share it.
 #[derive(Drop)]
-pub struct ProgressLine<'a> {
+pub(crate) struct ProgressLine<'a> {
     rt: &'a HostRuntime,
     is_shown: Cell<bool>,
 }
 
 impl<'a> ProgressLine<'a> {
     /// A line that is not shown.
-    pub fn new(rt: &'a HostRuntime) -> ProgressLine<'a> {
+    pub(crate) fn new(rt: &'a HostRuntime) -> ProgressLine<'a> {
         ProgressLine {
             rt,
             is_shown: Cell::new(false),
@@ -47,7 +48,7 @@ impl<'a> ProgressLine<'a> {
     }
 
     /// Erases the line where it is shown, and leaves the cursor at its first column.
-    pub fn erase(&self) {
+    pub(crate) fn erase(&self) {
         if self.is_shown.get() {
             self.is_shown.set(false);
             let _ = eprint!(self.rt; "\r\x1b[K");
@@ -88,14 +89,19 @@ impl Counts {
     }
 
     /// The share of the file that was read, in percent, if its size is known.
-    fn percent(&self) -> Option<u64> {
+    fn percent(&self) -> Option<u64>
+        ensures { IfSome result (λ percent. percent ≤ 100) }
+    {
         let percent = self.bytes.saturating_mul(100).checked_div(self.size)?;
         Some(percent.min(100))
     }
 
     /// Whether the line is to be written after a read at this time: when a second has passed since it was written last; at the end of the
     /// input, when a second has passed since the command began.
-    fn is_due(&mut self, now: Instant, has_ended: bool) -> bool {
+    fn is_due(&mut self, now: Instant, has_ended: bool) -> bool
+        ensures once { IsTrue self.old.has_ended → result ≡ false }
+        ensures ended { IsTrue has_ended → IsTrue self.new.has_ended }
+    {
         if self.has_ended {
             return false;
         }
@@ -137,7 +143,7 @@ fn begin_counts(rt: &HostRuntime, file: Option<&str>) -> Option<Counts> {
 
 /// An input of which the line says how much was read.
 #[derive(Drop)]
-pub struct Counted<'a> {
+pub(crate) struct Counted<'a> {
     input: Watched<'a, Input>,
     line: &'a ProgressLine<'a>,
     /// None if the line is never written.
@@ -146,7 +152,7 @@ pub struct Counted<'a> {
 
 impl<'a> Counted<'a> {
     /// An input of which nothing was read. `file` is the FILE of the command.
-    pub fn new(
+    pub(crate) fn new(
         rt: &HostRuntime,
         file: Option<&str>,
         input: Watched<'a, Input>,
@@ -160,7 +166,7 @@ impl<'a> Counted<'a> {
     }
 
     /// The input itself.
-    pub fn input(&self) -> &Watched<'a, Input> {
+    pub(crate) fn input(&self) -> &Watched<'a, Input> {
         &self.input
     }
 
@@ -199,19 +205,19 @@ impl Read for Counted<'_> {
 
 /// A writer that erases the line before it writes.
 #[derive(Drop)]
-pub struct Erasing<'a, S> {
+pub(crate) struct Erasing<'a, S> {
     output: S,
     line: &'a ProgressLine<'a>,
 }
 
 impl<'a, S> Erasing<'a, S> {
     /// A writer that writes to this one.
-    pub fn new(output: S, line: &'a ProgressLine<'a>) -> Erasing<'a, S> {
+    pub(crate) fn new(output: S, line: &'a ProgressLine<'a>) -> Erasing<'a, S> {
         Erasing { output, line }
     }
 
     /// The writer itself.
-    pub fn output(&self) -> &S {
+    pub(crate) fn output(&self) -> &S {
         &self.output
     }
 }

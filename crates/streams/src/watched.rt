@@ -36,6 +36,17 @@ impl<'a, S> Watched<'a, S> {
         !self.is_used
     }
 
+    /// The stream itself.
+    pub fn into_stream(self) -> S {
+        let Watched {
+            stream,
+            name: _,
+            error: _,
+            is_used: _,
+        } = self;
+        stream
+    }
+
     fn note(&mut self, answer: &io::Result<usize>) {
         match answer {
             Ok(count) => self.is_used = self.is_used || *count > 0,
@@ -82,7 +93,7 @@ fn reason(alloc: Global, error: &io::Error) -> Result<String, AllocError> {
 }
 
 /// Says on standard error why a stream of this name has failed.
-pub(crate) fn say_reason(rt: &HostRuntime, name: &str, error: &io::Error) -> io::Result<()> {
+pub fn say_reason(rt: &HostRuntime, name: &str, error: &io::Error) -> io::Result<()> {
     let reason = reason(rt.alloc(), error)?;
     eprintln!(rt; "{name}: {reason}")
 }
