@@ -4,11 +4,12 @@
 python3 bench/compare/histories.py [COUNT] [--real COUNT] [--seed SEED] [--program PATH] [--keep FOLDER]
 
 It makes COUNT histories (200) of up to four threads, three words and eleven operations, some of them with a reply that
-is drawn, and searches all orders of each that agree with its intervals. Then it does so with small ones of real threads
-(20), which history/process writes, most of them with a fault in the memory. The status is 1 where the program says ok
-and there is no order, or wrong and there is one; where it writes an order that postmig check does not accept; or where
-it is undecided although there is an order. What was undecided otherwise is counted, by whether a call overlaps an
-access. --keep has each history that differs.
+is drawn, and searches all orders of each that agree with its intervals and threads. A third have a clock that gives
+ticks again, and a few a wrong one. Then it does so with small ones of real threads (20), which history/process writes,
+most of them with a fault in the memory. The status is 1 where the program says ok and there is no order, or wrong and
+there is one; where it writes an order that postmig check does not accept; or where it is undecided although there is an
+order. What was undecided otherwise is counted, by its clock and whether a call overlaps an access. --keep has each
+history that differs.
 """
 
 import argparse
@@ -39,11 +40,24 @@ class Drawn:
         self.calls, self.overlap, self.swaps = draw.random() < 0.5, draw.random() < 0.2, draw.random() < 0.4
         self.mixed, self.repeats = draw.random() < 0.3, draw.random() < 0.3
         self.fault = draw.choice([0, 0, 0.1, 0.3])
+        self.clock = draw.choice(["counter", "counter", "tsc"])
+        self.rate = draw.choice([0.8, 0.5, 0.2]) if self.clock == "tsc" else 1
         self.memory, self.values, self.ticks = {}, 0, 2
         self.operations = [(0, 1, 2, "mmap", BASE, None)]
         self.busy = {}
         while len(self.operations) <= self.count or self.busy:
             self.step()
+        if draw.random() < 0.1:
+            self.misread(draw.randrange(len(self.operations)))
+        if draw.random() < 0.3:
+            draw.shuffle(self.operations)
+
+    def misread(self, number):
+        """Gives an operation other ticks."""
+        thread, begin, end, *rest = self.operations[number]
+        earlier = max(begin - self.draw.randint(1, 4), 0)
+        begin, end = self.draw.choice([(begin, begin), (end, end), (end, begin), (earlier, end)])
+        self.operations[number] = (thread, begin, end, *rest)
 
     def found(self, addr):
         if self.draw.random() < self.fault:
@@ -75,7 +89,7 @@ class Drawn:
             self.memory[addr] = value
 
     def step(self):
-        self.ticks += 1
+        self.ticks += self.draw.random() < self.rate
         idle = [it for it in range(self.threads) if it not in self.busy]
         more = len(self.operations) + len(self.busy) <= self.count
         called = any(it[1] == "dontneed" for it in self.busy.values()) and not self.overlap
@@ -109,10 +123,33 @@ def after(memory, word, addr, value):
     return ()
 
 
-def has_order(operations):
-    """Whether there is an order that agrees with the intervals, in which each reply is that of one memory: all of them
-    are tried."""
-    operations = sorted(operations, key=lambda it: it[1])
+def made_by_threads(operations):
+    """Of each operation the set of those that its thread made earlier, as bits. None where a thread made two at once."""
+    made = [0] * len(operations)
+    for one in range(len(operations)):
+        for other in range(one):
+            (thread, begin, end), (its_thread, its_begin, its_end) = operations[one][:3], operations[other][:3]
+            if thread != its_thread:
+                continue
+            # Where all four ticks are one, the lines are as the thread made them.
+            if its_end <= begin:
+                made[one] |= 1 << other
+            elif end <= its_begin:
+                made[other] |= 1 << one
+            else:
+                return None
+    return made
+
+
+def has_order(operations, clock):
+    """Whether there is an order that agrees with the intervals and the threads, in which each reply is that of one memory: all of them are
+    tried. An operation took effect at its begin, at its end, or between them; a counter that gives a tick twice is wrong."""
+    ticks = [tick for it in operations for tick in it[1:3]]
+    if clock == "counter" and len(set(ticks)) < len(ticks):
+        return False
+    made = made_by_threads(operations)
+    if made is None or any(end < begin for _, begin, end, *_ in operations):
+        return False
     whole = (1 << len(operations)) - 1
 
     @functools.lru_cache(None)
@@ -121,7 +158,7 @@ def has_order(operations):
             return True
         first_end = min(it[2] for at, it in enumerate(operations) if not done >> at & 1)
         for at, (_, begin, _, word, addr, value) in enumerate(operations):
-            if done >> at & 1 or begin > first_end:
+            if done >> at & 1 or begin > first_end or made[at] & ~done:
                 continue
             left = after(memory, word, addr, value)
             if left is not None and reaches(done | 1 << at, left):
@@ -140,13 +177,13 @@ def operation_of(line):
 
 
 def real(seed):
-    """The operations of real threads on one page, most of them with a fault."""
+    """The clock and the operations of real threads on one page, most of them with a fault."""
     plant = PLANTS[seed % len(PLANTS)]
     words = ["--seed", seed, "--threads", 2 + seed % 3, "--pages", 1, "--words", 1 + seed % 4, "--count", 120]
     words += ["--calls", seed % 3 * 300, "--pauses", 200]
     words += ["--swaps"] * (seed // 5 % 2) + (["--plant", plant] if plant else [])
     lines = subprocess.run([PROCESS, *map(str, words)], capture_output=True, text=True, check=True).stdout.splitlines()
-    return [operation_of(line) for line in lines[2:-1]]
+    return "counter", [operation_of(line) for line in lines[2:-1]]
 
 
 def line_of(operation):
@@ -165,15 +202,15 @@ def line_of(operation):
 def overlaps(operations):
     """Whether a map call overlaps another operation: no program may do that."""
     calls = [it for it in operations if it[3] in ("mmap", "munmap", "dontneed")]
-    return any(call is not it and call[1] < it[2] and it[1] < call[2] for call in calls for it in operations)
+    return any(call is not it and call[1] <= it[2] and it[1] <= call[2] for call in calls for it in operations)
 
 
-def judge(program, operations, folder):
+def judge(program, clock, operations, folder):
     """The status of a history, with what is wrong with the answer, or None."""
     file, order = folder / "history", folder / "order"
-    file.write_text("history 1\nclock counter\n" + "".join(map(line_of, operations)) + f"end {len(operations)}\n")
+    file.write_text(f"history 1\nclock {clock}\n" + "".join(map(line_of, operations)) + f"end {len(operations)}\n")
     ended = subprocess.run([program, "history", "--transcript", order, file], capture_output=True)
-    right = has_order(tuple(operations))
+    right = has_order(tuple(operations), clock)
     status = ended.returncode
     if status not in STATUSES:
         return status, f"status {status}: {ended.stderr[-200:]}"
@@ -191,10 +228,10 @@ def compare(asked, kind, histories):
     differ, made, tally = 0, 0, collections.Counter()
     with tempfile.TemporaryDirectory() as name:
         folder = pathlib.Path(name)
-        for number, operations in enumerate(histories):
-            status, wrong = judge(asked.program, operations, folder)
+        for number, (clock, operations) in enumerate(histories):
+            status, wrong = judge(asked.program, clock, operations, folder)
             made += 1
-            tally[STATUSES.get(status, status), status == 5 and overlaps(operations)] += 1
+            tally[STATUSES.get(status, status), clock, status == 5 and overlaps(operations)] += 1
             if wrong:
                 differ += 1
                 print(f"history {number}, {kind}, of seed {asked.seed}: {wrong}")
@@ -202,7 +239,8 @@ def compare(asked, kind, histories):
                     asked.keep.mkdir(parents=True, exist_ok=True)
                     (asked.keep / f"{asked.seed}-{number}.history").write_bytes((folder / "history").read_bytes())
     counts = sorted(tally.items(), key=str)
-    said = ", ".join(f"{word}{' (a call overlaps an access)' * overlap} {count}" for (word, overlap), count in counts)
+    overlaps_too = " (a call overlaps an access)"
+    said = ", ".join(f"{word} {clock}{overlaps_too * overlap} {count}" for (word, clock, overlap), count in counts)
     print(f"{made} {kind}: {said}; {differ} differ from the exhaustive search")
     return differ
 
@@ -220,7 +258,7 @@ def main():
     require(asked.program)
     subprocess.run(["make", "-s", "-C", PROCESS.parents[1]], check=True)
     draw = random.Random(asked.seed)
-    drawn = (Drawn(draw).operations for _ in range(asked.count))
+    drawn = ((it.clock, it.operations) for it in (Drawn(draw) for _ in range(asked.count)))
     threads = (real(asked.seed * asked.real + number) for number in range(asked.real))
     differ = compare(asked, "drawn", drawn) + compare(asked, "of real threads", threads)
     return bool(differ)

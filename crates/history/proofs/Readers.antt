@@ -15,9 +15,9 @@ not_again : (history order : List Operation) (d x : Operation) (p q : ℕ) → E
 not_again history order d x p q explains in_p in_q is_p is_q less =
     let may = explains.agrees p q d less in_q in
     let after : MayPrecede x x = subst (λ (a : Operation). MayPrecede a x) is_p (subst (λ (b : Operation). MayPrecede (get_or order p d) b) is_q may) in
-    let ended = after.one_thread refl in
-    let timed : x.begin < x.end = subst (λ (a : Operation). a.begin < a.end) is_p (explains.timed p d in_p) in
-    absurd (omega (arith, ended, timed))
+    let made = after.one_thread refl in
+    let less_line : x.line < x.line = made.lines made.ended in
+    absurd (omega (arith, less_line))
 
 one_place : (history order : List Operation) (d x : Operation) (p q : ℕ) → Explains history order → p < length order → q < length order → get_or order p d ≡ x → get_or order q d ≡ x → p ≡ q
 one_place history order d x p q explains in_p in_q is_p is_q = elim (cases_lt p q) [

@@ -1,17 +1,21 @@
 -- A value that is found was left: in an order that explains a history, some operation before the reader left it, and none between them left
 -- anything else.
-use Rattle.std.proofs.Common.{◌≡◌, ◌⊎◌, ℕ, zero, suc, ◌<◌, ◌≤◌, Option, Some, None, unwrap_or, List, [], ◌∷◌, ◌++◌, true, refl, sym, ap, ◌∙◌, subst, inl, inr, arith, length, get_or}
-use Rattle.std.specs.List.{All, Contains}
+use Rattle.std.proofs.Common.{◌≡◌, ◌≢◌, ◌⊎◌, ℕ, zero, suc, ◌<◌, ◌≤◌, Option, Some, None, unwrap_or, List, [], ◌∷◌, ◌++◌, Bool, true, false, cond, eqb, refl, sym, ap, ◌∙◌, subst, inl, inr, arith, length, get_or}
+use Rattle.std.specs.List.{All, AllPairs, Contains}
 use Rattle.std.specs.List.Sorted.{IsPermutation}
 use Rattle.std.proofs.lemmas.Bool.{cases_lt}
+use Rattle.std.proofs.lemmas.Bool.Decides.{eqb_tells}
 use Rattle.std.proofs.lemmas.List.{get_or_default}
 use Rattle.std.proofs.lemmas.List.Elements.{All-head, All-tail}
 use Rattle.std.proofs.lemmas.List.Sorted.{All-permutation, Contains-permutation}
 use Rattle.mig_base.specs.declared.command.Entry.{Entry}
 use Rattle.mig_base.specs.Flat.{Memory, no_memory, after, IsRunFrom, memory_from}
+use Rattle.history.specs.declared.operation.TheConstants.{NEVER}
+use Rattle.history.specs.declared.operation.Clock.{Clock}
+use Rattle.history.specs.declared.operation.Clock.TheVariants.{Counter, Time}
 use Rattle.history.specs.declared.operation.Operation.{Operation}
-use Rattle.history.specs.Histories.{entries, entries_of, MayPrecede, Explains}
-use Rattle.history.specs.Contradictions.{found_at, left_at, keeps_whole, Disturbs, CannotGive, HasNoSource}
+use Rattle.history.specs.Histories.{entries, entries_of, IsMadeBefore, MayPrecede, Explains, ticks, ticks_of, GaveTicks}
+use Rattle.history.specs.Contradictions.{found_at, left_at, keeps_whole, Before, Disturbs, CannotGive, HasNoSource, IsBackward}
 use Rattle.history.proofs.Locations.{Shows, now_at, IsPlace, step_at, place_of}
 
 -- Runs in two parts
@@ -95,21 +99,37 @@ place_in history order d x same there =
     let it = Contains-permutation history order x same there in
     record { at = it.0; inside = it.1; is = get_or_default order it.0 d x it.1 ∙ it.2 }
 
--- one that had ended when another began is before it
-pub comes_first : (history order : List Operation) (d x y : Operation) (i j : ℕ) → Explains history order → i < length order → j < length order → get_or order i d ≡ x → get_or order j d ≡ y → x.end < y.begin → i < j
-comes_first history order d x y i j explains in_i in_j is_x is_y ended = elim (cases_lt i j) [
+-- of two operations of which the first is before the second, the second may not precede the first
+not_both : (x y : Operation) → Before x y → MayPrecede y x → ⊥
+not_both x y before may = elim before [
+  | inl ended ↦ let began = may.began in omega (arith, began, ended)
+  | inr made ↦
+      let back = may.one_thread (sym made.0) in
+      let one = made.1.lines back.ended in
+      let other = back.lines made.1.ended in
+      omega (arith, one, other)
+]
+
+not_itself : (x : Operation) → x.begin ≤ x.end → Before x x → ⊥
+not_itself x timed before = elim before [
+  | inl ended ↦ omega (arith, timed, ended)
+  | inr made ↦ let less = made.1.lines made.1.ended in omega (arith, less)
+]
+
+-- one that is before another comes first
+pub comes_first : (history order : List Operation) (d x y : Operation) (i j : ℕ) → Explains history order → i < length order → j < length order → get_or order i d ≡ x → get_or order j d ≡ y → Before x y → i < j
+comes_first history order d x y i j explains in_i in_j is_x is_y before = elim (cases_lt i j) [
   | inl less ↦ less
   | inr least ↦ elim (cases_lt j i) [
     | inl less ↦
         let may = explains.agrees j i d less in_i in
-        let began : y.begin ≤ x.end = subst (λ (a : Operation). a.begin ≤ x.end) is_y (subst (λ (b : Operation). (get_or order j d).begin ≤ b.end) is_x may.began) in
-        absurd (omega arith)
+        let turned : MayPrecede y x = subst (λ (a : Operation). MayPrecede a x) is_y (subst (λ (b : Operation). MayPrecede (get_or order j d) b) is_x may) in
+        absurd (not_both x y before turned)
     | inr most ↦
         let same : i ≡ j = omega arith in
-        let timed : x.begin < x.end = subst (λ (a : Operation). a.begin < a.end) is_x (explains.timed i d in_i) in
+        let timed : x.begin ≤ x.end = subst (λ (a : Operation). a.begin ≤ a.end) is_x (explains.timed i d in_i) in
         let one : x ≡ y = sym is_x ∙ ap (λ n. get_or order n d) same ∙ is_y in
-        let begins : x.begin ≡ y.begin = ap (λ (a : Operation). a.begin) one in
-        absurd (omega arith)
+        absurd (not_itself x timed (subst (λ (b : Operation). Before x b) (sym one) before))
   ]
 ]
 
@@ -150,7 +170,7 @@ no_source history order place size value reader None wrong explains =
     let left = left_by place size order reader at.at value is whole explains.flat at.inside found in
     let sources = All-permutation (λ x. left_at place x.action ≡ Some (Some value) → CannotGive None reader x) history order explains.all wrong.sources in
     let within : left.from < length order = omega (arith, left.before, at.inside) in
-    let after_it : reader.end < (get_or order left.from reader).begin = sources left.from reader within left.leaves in
+    let after_it : Before reader (get_or order left.from reader) = sources left.from reader within left.leaves in
     let turned = comes_first history order reader reader (get_or order left.from reader) at.at left.from explains at.inside within at.is refl after_it in
     absurd (omega (arith, left.before))
 no_source history order place size value reader (Some between) wrong explains =
@@ -174,11 +194,34 @@ no_source history order place size value reader (Some between) wrong explains =
 
 -- Clocks
 
-pub never_backward : (history order : List Operation) (x : Operation) → Contains history x → x.end ≤ x.begin → Explains history order → ⊥
-never_backward history order x there back explains =
+timed_in : (history order : List Operation) (x : Operation) → Contains history x → Explains history order → x.begin ≤ x.end
+timed_in history order x there explains =
     let at = place_in history order x x explains.all there in
-    let timed : x.begin < x.end = subst (λ (a : Operation). a.begin < a.end) at.is (explains.timed at.at x at.inside) in
-    omega arith
+    subst (λ (a : Operation). a.begin ≤ a.end) at.is (explains.timed at.at x at.inside)
+
+later_apart : (xs ys : List ℕ) → AllPairs (λ x y. x ≢ y) (xs ++ ys) → AllPairs (λ x y. x ≢ y) ys
+later_apart [] ys h = h
+later_apart (x ∷ xs) ys h = later_apart xs ys (λ i j d l m. h (suc i) (suc j) d (omega arith) (omega arith))
+
+first_twice : (begin end : ℕ) (is_never : Bool) (rest : List ℕ) → is_never ≡ false → begin ≡ end → AllPairs (λ x y. x ≢ y) (begin ∷ (cond is_never [] (end ∷ []) ++ rest)) → ⊥
+first_twice begin end true rest e same h = cc
+first_twice begin end false rest e same h = h 0 1 0 (omega arith) (omega arith) same
+
+other_number : (a b : ℕ) → a ≢ b → eqb a b ≡ false
+other_number a b h = elim (eqb_tells a b) [ inl same ↦ absurd (h same.1) | inr other ↦ other.0 ]
+
+-- a counter has not given one tick for the begin and the end of an operation
+given_twice : (history : List Operation) (x : Operation) (k : ℕ) → k < length history → get_or history k x ≡ x → x.begin ≡ x.end → x.end ≢ NEVER → AllPairs (λ x y. x ≢ y) (ticks history) → ⊥
+given_twice [] x k inside is same known h = omega arith
+given_twice (y ∷ ys) x zero inside is same known h =
+    first_twice y.begin y.end (eqb y.end NEVER) (ticks ys) (other_number y.end NEVER (subst (λ (a : Operation). a.end ≢ NEVER) (sym is) known)) (subst (λ (a : Operation). a.begin ≡ a.end) (sym is) same) h
+given_twice (y ∷ ys) x (suc k) inside is same known h = given_twice ys x k (omega arith) is same known (later_apart (ticks_of y) (ticks ys) h)
+
+pub never_backward : (clock : Clock) (history order : List Operation) (x : Operation) → Contains history x → IsBackward clock x → GaveTicks clock history → Explains history order → ⊥
+never_backward Counter history order x there back gave explains =
+    let timed = timed_in history order x there explains in
+    given_twice history x there.0 there.1 there.2 (omega (arith, timed, back.0)) back.1 gave
+never_backward Time history order x there back gave explains = let timed = timed_in history order x there explains in omega (arith, timed, back)
 
 pub never_overlap : (history order : List Operation) (x y : Operation) → Contains history x → Contains history y → x.thread ≡ y.thread → (x.line ≡ y.line → ⊥) → y.begin < x.end → x.begin < y.end → Explains history order → ⊥
 never_overlap history order x y x_there y_there same other one_way other_way explains =
@@ -188,13 +231,13 @@ never_overlap history order x y x_there y_there same other one_way other_way exp
       | inl less ↦
           let may = explains.agrees a.at b.at x less b.inside in
           let after : MayPrecede x y = subst (λ (p : Operation). MayPrecede p y) a.is (subst (λ (q : Operation). MayPrecede (get_or order a.at x) q) b.is may) in
-          let ended = after.one_thread same in
+          let ended = (after.one_thread same).ended in
           absurd (omega (arith, ended))
       | inr least ↦ elim (cases_lt b.at a.at) [
         | inl less ↦
             let may = explains.agrees b.at a.at x less a.inside in
             let after : MayPrecede y x = subst (λ (p : Operation). MayPrecede p x) b.is (subst (λ (q : Operation). MayPrecede (get_or order b.at x) q) a.is may) in
-            let ended = after.one_thread (sym same) in
+            let ended = (after.one_thread (sym same)).ended in
             absurd (omega (arith, ended))
         | inr most ↦
             let one : a.at ≡ b.at = omega arith in

@@ -1,12 +1,15 @@
 -- How operations contradict each other: what makes an order of all of them impossible. A location is an address with a width, in bytes.
-use Rattle.std.specs.Prelude.{◌≡◌, ◌≢◌, ℕ, ◌<◌, ◌⊎◌, ◌==◌, not, Bool, true, Option, Some, None, IfSome, List, length, slice_index_or, if◌then◌else◌}
+use Rattle.std.specs.Prelude.{◌≡◌, ◌≢◌, ℕ, ◌<◌, ◌≤◌, ◌⊎◌, ◌==◌, not, Bool, true, Option, Some, None, IfSome, List, length, slice_index_or, if◌then◌else◌}
 use Rattle.std.specs.List.{All, Contains}
 use Rattle.mig_base.specs.Ranges.{in_range, rounded}
 use Rattle.mig_base.specs.Flat.{is_aligned, overlaps}
+use Rattle.history.specs.declared.operation.TheConstants.{NEVER}
+use Rattle.history.specs.declared.operation.Clock.{Clock}
+use Rattle.history.specs.declared.operation.Clock.TheVariants.{Counter, Time}
 use Rattle.history.specs.declared.operation.Action.{Action}
 use Rattle.history.specs.declared.operation.Action.TheVariants.{Load, Store, Swap, Map, Unmap, Discard}
 use Rattle.history.specs.declared.operation.Operation.{Operation}
-use Rattle.history.specs.Histories.{Explains}
+use Rattle.history.specs.Histories.{Explains, IsMadeBefore}
 
 -- the value that an action found at an address, if it is one that reads there
 abbrev pub found_at : ℕ → Action → Option ℕ
@@ -44,9 +47,9 @@ pub record IsLocation (history : List Operation) (place size : ℕ) : Type 0 whe
   pub aligned : is_aligned place size ≡ true
   pub whole : All (λ operation. keeps_whole place size operation.action ≡ true) history
 
--- one operation had ended when another began
+-- one operation had ended when another began, at a later tick; or one thread made it before the other, perhaps at one tick
 abbrev pub Before : Operation → Operation → Type 0
-Before first second = first.end < second.begin
+Before first second = (first.end < second.begin) ⊎ ((first.thread ≡ second.thread) × IsMadeBefore first second)
 
 -- a value cannot be at the location both before and after the operation, if none brought it back: the operation found another there, or
 -- left something there
@@ -72,7 +75,12 @@ pub record HasNoSource (history : List Operation) (place size value : ℕ) (read
   pub disturbed : IfSome between (λ it. Contains history it × Before it reader × Disturbs place value it)
   pub sources : All (λ source. left_at place source.action ≡ Some (Some value) → CannotGive between reader source) history
 
--- clock: two operations of one thread of which neither had ended when the other began, or one that ended before it began
+-- clock: an operation ended before it began, or a counter gave one tick for both
+abbrev pub IsBackward : Clock → Operation → Type 0
+IsBackward Counter operation = (operation.end ≤ operation.begin) × (operation.end ≢ NEVER)
+IsBackward Time operation = operation.end < operation.begin
+
+-- clock: two operations of one thread, of which neither had ended when the other began
 abbrev pub Overlap : Operation → Operation → Type 0
 Overlap first second = (first.thread ≡ second.thread) × (second.begin < first.end) × (first.begin < second.end)
 

@@ -36,17 +36,23 @@ abbrev pub entries : List Operation → List Entry
 entries [] = []
 entries (operation ∷ operations) = entries_of operation.thread operation.action ++ entries operations
 
+-- of two operations of one thread the first was made before the second: it had ended when that one began. A clock may give both one tick for
+-- all: then their lines are in the order in which they were made
+pub record IsMadeBefore (first second : Operation) : Type 0 where
+  pub ended : first.end ≤ second.begin
+  pub lines : second.end ≤ first.begin → first.line < second.line
+
 -- the first of two operations may take effect before the second: the second had not ended when the first began, and if one thread made
--- both, then the first had ended when the second began
+-- both, then the first was made before the second
 pub record MayPrecede (first second : Operation) : Type 0 where
   pub began : first.begin ≤ second.end
-  pub one_thread : first.thread ≡ second.thread → first.end ≤ second.begin
+  pub one_thread : first.thread ≡ second.thread → IsMadeBefore first second
 
 -- an order of all operations of a history that explains it
 pub record Explains (history order : List Operation) : Type 0 where
   pub all : IsPermutation history order
   -- it agrees with each interval, and with the order in which each thread made its operations
-  pub timed : All (λ operation. operation.begin < operation.end) order
+  pub timed : All (λ operation. operation.begin ≤ operation.end) order
   pub agrees : AllPairs MayPrecede order
   -- each reply is that of one flat memory in which nothing is mapped at first
   pub flat : IsFlatRun (entries order)
@@ -60,7 +66,8 @@ abbrev pub ticks : List Operation → List ℕ
 ticks [] = []
 ticks (operation ∷ operations) = ticks_of operation ++ ticks operations
 
--- the clock gave its ticks as it should: a counter gives none twice
+-- the clock gave its ticks as it should: a counter gives none twice, so that an operation ends at a later tick than it begins. Another clock
+-- may give one tick to several operations, and to the begin and the end of one
 abbrev pub GaveTicks : Clock → List Operation → Type 0
 GaveTicks Counter history = AllPairs (λ x y. x ≢ y) (ticks history)
 GaveTicks Time history = Unit {0}

@@ -3,9 +3,11 @@
 ghost use Rattle.std.specs.Bool.{OnTrue};
 ghost use Rattle.history.specs.declared.operation.Clock.{Clock};
 ghost use Rattle.history.specs.Histories.{IsKept};
+ghost use Rattle.history.specs.Contradictions.{IsBackward};
 
+use crate::before::is_before;
 use crate::cycle::{Value, is_cycle};
-use crate::operation::Operation;
+use crate::operation::{Clock, NEVER, Operation};
 use crate::place::{changes, disturbs, read_of};
 use crate::reader::{has_no_other, is_location, is_reader};
 use mig_base::Addr;
@@ -13,8 +15,8 @@ use mig_base::Addr;
 /// What contradicts each order of the operations of a history, which are named by their indices.
 #[derive(Drop)]
 pub enum Contradiction {
-    /// The operation `reader` found a value that no operation can have given it: each that left the value began when `reader` had ended,
-    /// or had ended when `between` began, which had ended when `reader` began, and disturbed the value.
+    /// The operation `reader` found a value that no operation can have given it: each that left the value comes after `reader`, or before
+    /// `between`, which comes before `reader` and disturbed the value.
     NoSource {
         reader: usize,
         between: Option<usize>,
@@ -32,7 +34,7 @@ pub enum Contradiction {
         size: u8,
         values: Vec<Value>,
     },
-    /// An operation ended before it began.
+    /// An operation ended before it began, or with a counter at the same tick.
     Backward {
         at: usize,
     },
@@ -43,7 +45,7 @@ pub enum Contradiction {
     },
 }
 
-/// Whether no operation can have given the one at an index the value that it found, since each that left the value began too late.
+/// Whether no operation can have given the one at an index the value that it found, since each that left the value comes after it.
 fn refutes_alone(operations: &[Operation], at: usize) -> bool
     ensures { OnTrue result ((clock : Clock) → IsKept clock operations.now → ⊥) }
 {
@@ -60,8 +62,8 @@ fn refutes_alone(operations: &[Operation], at: usize) -> bool
     has_no_other(operations, read.place, read.value, reader, None, None)
 }
 
-/// Whether no operation can have given the one at an index the value that it found, since each that left the value began too late, or had
-/// ended when the one at the index `mid` began, which disturbs the value.
+/// Whether no operation can have given the one at an index the value that it found, since each that left the value comes after it, or before
+/// the one at the index `mid`, which disturbs the value.
 fn refutes_between(operations: &[Operation], at: usize, mid: usize) -> bool
     ensures { OnTrue result ((clock : Clock) → IsKept clock operations.now → ⊥) }
 {
@@ -73,7 +75,7 @@ fn refutes_between(operations: &[Operation], at: usize, mid: usize) -> bool
     let Some(read) = read_of(reader.action) else {
         return false;
     };
-    if between.end >= reader.begin || !disturbs(read.place, read.value, &between) {
+    if !is_before(&between, &reader) || !disturbs(read.place, read.value, &between) {
         return false;
     }
     if !is_location(operations, read.place, read.size) {
@@ -89,18 +91,24 @@ fn refutes_between(operations: &[Operation], at: usize, mid: usize) -> bool
     )
 }
 
-/// Whether the operation at an index ended before it began.
-fn is_backward(operations: &[Operation], at: usize) -> bool
-    ensures { OnTrue result ((clock : Clock) → IsKept clock operations.now → ⊥) }
+/// Whether an operation ended before it began, or a counter gave one tick for both.
+pub fn is_turned(clock: Clock, operation: &Operation) -> bool
+    ensures { OnTrue result (IsBackward clock operation.now) }
+{
+    match clock {
+        Clock::Counter => operation.end <= operation.begin && operation.end != NEVER,
+        Clock::Time => operation.end < operation.begin,
+    }
+}
+
+/// Whether that is so of the operation at an index.
+fn is_backward(clock: Clock, operations: &[Operation], at: usize) -> bool
+    ensures { OnTrue result (IsKept clock operations.now → ⊥) }
 {
     if at >= operations.len() {
         return false;
     }
-    let operation = operations[at];
-    if operation.begin < operation.end {
-        return false;
-    }
-    true
+    is_turned(clock, &operations[at])
 }
 
 /// Whether the operations at two indices are of one thread and on different lines, and neither had ended when the other began.
@@ -146,9 +154,10 @@ fn is_fork(operations: &[Operation], from: usize, first: usize, second: usize) -
     is_reader(operations, read.place, source, other)
 }
 
-/// Whether a contradiction is there, so that no order of the operations explains the history. If not, there may be one all the same.
-pub fn refutes(operations: &[Operation], contradiction: &Contradiction) -> bool
-    ensures { OnTrue result ((clock : Clock) → IsKept clock operations.now → ⊥) }
+/// Whether a contradiction is there, so that with this clock no order of the operations explains the history. If not, there may be one all the
+/// same.
+pub fn refutes(clock: Clock, operations: &[Operation], contradiction: &Contradiction) -> bool
+    ensures { OnTrue result (IsKept clock operations.now → ⊥) }
 {
     match contradiction {
         Contradiction::NoSource {
@@ -169,7 +178,7 @@ pub fn refutes(operations: &[Operation], contradiction: &Contradiction) -> bool
             size,
             values,
         } => is_cycle(operations, *place, *size, values),
-        Contradiction::Backward { at } => is_backward(operations, *at),
+        Contradiction::Backward { at } => is_backward(clock, operations, *at),
         Contradiction::Overlap { first, second } => overlap(operations, *first, *second),
     }
 }

@@ -7,6 +7,7 @@ ghost use Rattle.history.specs.declared.operation.Clock.{Clock};
 ghost use Rattle.history.specs.Histories.{IsKept};
 ghost use Rattle.history.specs.Contradictions.{ComesFirst, IsLocation, LeftFirst};
 
+use crate::before::is_before;
 use crate::operation::Operation;
 use crate::place::changes;
 use crate::reader::{is_location, is_reader, sees};
@@ -16,9 +17,9 @@ use crate::reader::{is_location, is_reader, sees};
 pub struct Value {
     /// The operation that left it.
     pub source: usize,
-    /// One that had ended when one began that saw the next value.
+    /// One that comes before one that saw the next value.
     pub early: usize,
-    /// One that began when one had ended that saw the value before it.
+    /// One that comes after one that saw the value before it.
     pub late: usize,
 }
 
@@ -54,7 +55,7 @@ fn left_first(operations: &[Operation], place: u64, value: Seen, next: Seen) -> 
     ensures { OnTrue result
         (LeftFirst operations.now place value.source value.early next.source next.late) }
 {
-    if value.source.line == next.source.line || value.early.end >= next.late.begin {
+    if value.source.line == next.source.line || !is_before(&value.early, &next.late) {
         return false;
     }
     if !changes(place, value.source.action) {

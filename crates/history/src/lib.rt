@@ -2,12 +2,13 @@
 //!
 //! An [`Operation`] has the interval in which it took effect. `specs/Histories.antt` says when an order of all operations explains a history,
 //! over the flat memory of `mig_base`, and `specs/Contradictions.antt` why there may be none: [`refutes`] checks a [`Contradiction`].
-//! [`agrees`] and [`gave_ticks`] check what an order and a clock have to meet.
+//! [`agrees`] and [`gave_ticks`] check what an order and a clock have to meet, [`is_made_before`] and [`is_turned`] two operations and one.
 //!
 //! The crate searches for nothing: what it checks is proposed by its caller. It reads no text and prints none.
 #![tactic(auto)]
 
 mod agreement;
+mod before;
 mod contradiction;
 mod cycle;
 mod operation;
@@ -16,7 +17,8 @@ mod reader;
 mod ticks;
 
 pub use crate::agreement::agrees;
-pub use crate::contradiction::{Contradiction, refutes};
+pub use crate::before::is_made_before;
+pub use crate::contradiction::{Contradiction, is_turned, refutes};
 pub use crate::cycle::Value;
 pub use crate::operation::{Action, Clock, NEVER, Operation};
 pub use crate::ticks::gave_ticks;

@@ -6,11 +6,11 @@ use mig_base::Addr;
 pub const NEVER: u64 = 0xffff_ffff_ffff_ffff;
 
 /// What gives the ticks of a history.
-#[derive(Clone, Copy)]
+#[derive(Clone, Copy, PartialEq, Eq)]
 pub enum Clock {
     /// A counter, which gives no tick twice.
     Counter,
-    /// A clock such as the time stamp counter, which may.
+    /// A clock such as the time stamp counter, which may: also for the begin and the end of one operation.
     Time,
 }
 
@@ -53,14 +53,14 @@ pub enum Action {
     },
 }
 
-/// An operation of a thread: it took effect after the tick `begin` and before the tick `end`.
+/// An operation of a thread: it took effect after its clock gave the tick `begin`, and before that gave the tick `end`.
 #[derive(Clone, Copy, PartialEq, Eq)]
 pub struct Operation {
     pub begin: u64,
     /// [`NEVER`] if it is not known.
     pub end: u64,
     pub action: Action,
-    /// The number of its line, counted from 1.
+    /// The number of its line, counted from 1. Of operations of one thread that have one tick for all, the line says which it made first.
     pub line: u32,
     pub thread: u8,
 }

@@ -13,6 +13,7 @@ ghost use Rattle.history.specs.Contradictions.{
   Sees,
 };
 
+use crate::before::is_before;
 use crate::operation::Operation;
 use crate::place::{found_at, keeps_whole, leaves};
 use mig_base::command::is_aligned;
@@ -46,11 +47,11 @@ fn is_only(only: Option<Operation>, source: &Operation) -> bool
 fn cannot_give(between: Option<Operation>, reader: Operation, source: &Operation) -> bool
     ensures { OnTrue result (CannotGive between reader source.now) }
 {
-    if reader.end < source.begin {
+    if is_before(&reader, source) {
         return true;
     }
     match between {
-        Some(between) => source.end < between.begin,
+        Some(between) => is_before(source, &between),
         None => false,
     }
 }
@@ -94,11 +95,11 @@ pub(crate) fn has_no_other(
     true
 }
 
-/// The source, if it had ended when `reader` began.
+/// The source, if it comes before `reader`.
 fn ended_before(source: Operation, reader: Operation) -> Option<Operation>
     ensures { IfSome result (λ it. (it ≡ source) × Before it reader) }
 {
-    if source.end < reader.begin {
+    if is_before(&source, &reader) {
         Some(source)
     } else {
         None

@@ -11,12 +11,12 @@ pub record Explained (clock : Clock) (history order : List Operation) : Type 0 w
   pub explains : Explains history order
   pub ticked : GaveTicks clock history
 
--- no order does
-abbrev pub IsRefuted : List Operation → Type 0
-IsRefuted history = (clock : Clock) → IsKept clock history → ⊥
+-- no order does, or a counter gave a tick twice
+abbrev pub IsRefuted : Clock → List Operation → Type 0
+IsRefuted clock history = IsKept clock history → ⊥
 
 -- the decision on a history, whose operations are then in this order. Where it is undecided, nothing is said
 abbrev pub Decides : Clock → List Operation → List Operation → Decision → Type 0
 Decides clock history order Kept = Explained clock history order
-Decides clock history order (Wrong contradictions) = IsRefuted history
+Decides clock history order (Wrong contradictions) = IsRefuted clock history
 Decides clock history order (Undecided doubt) = Unit {0}

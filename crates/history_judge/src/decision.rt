@@ -35,12 +35,13 @@ fn is_named(list: &[Contradiction], contradiction: &Contradiction) -> bool {
 /// Whether a contradiction is there of which the list does not have a like. If so, it is added to the list.
 fn push_true(
     list: &mut Vec<Contradiction>,
+    clock: Clock,
     operations: &[Operation],
     contradiction: Contradiction,
 ) -> Result<bool, NoMemory>
-    ensures { IfOk result (λ there. OnTrue there (IsRefuted operations.now)) }
+    ensures { IfOk result (λ there. OnTrue there (IsRefuted clock operations.now)) }
 {
-    if is_named(list, &contradiction) || !refutes(operations, &contradiction) {
+    if is_named(list, &contradiction) || !refutes(clock, operations, &contradiction) {
         return Ok(false);
     }
     list.push(contradiction)?;
@@ -50,14 +51,15 @@ fn push_true(
 /// Adds to the list the contradictions that are there. Whether there is one.
 fn push_all_true(
     list: &mut Vec<Contradiction>,
+    clock: Clock,
     operations: &[Operation],
     proposed: Vec<Contradiction>,
 ) -> Result<bool, NoMemory>
-    ensures { IfOk result (λ there. OnTrue there (IsRefuted operations.now)) }
+    ensures { IfOk result (λ there. OnTrue there (IsRefuted clock operations.now)) }
 {
     let mut is_wrong = false;
     for contradiction in proposed {
-        let there = push_true(list, operations, contradiction)?;
+        let there = push_true(list, clock, operations, contradiction)?;
         is_wrong = is_wrong || there;
     }
     Ok(is_wrong)
@@ -72,7 +74,7 @@ pub fn decide(
 ) -> Result<Decision, NoMemory>
     ensures { IfOk result (λ decision. Decides clock operations.old operations.new decision) }
 {
-    match propose(alloc, operations)? {
+    match propose(alloc, clock, operations)? {
         Proposal::Order(order) => {
             let mut order = order;
             let explains = confirm_order(alloc, clock, operations, &mut order)?;
@@ -84,7 +86,7 @@ pub fn decide(
         }
         Proposal::Contradictions(proposed) => {
             let mut list = Vec::new(alloc);
-            let is_wrong = push_all_true(&mut list, operations, proposed)?;
+            let is_wrong = push_all_true(&mut list, clock, operations, proposed)?;
             if is_wrong {
                 Ok(Decision::Wrong(list))
             } else {

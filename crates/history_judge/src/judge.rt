@@ -148,6 +148,12 @@ fn write_doubt(text: &mut String, doubt: Option<Doubt>) -> Result<(), AllocError
                 "undecided: at 0x{addr:x} a map call overlaps an access or a map call, and no order was found\n"
             )
         }
+        Some(Doubt::Threads) => {
+            write!(
+                text,
+                "undecided: operations of a thread share a tick, and no order was found that has them as they were made\n"
+            )
+        }
         Some(Doubt::Calls) => write!(text, "undecided: too many map calls on pages\n"),
         Some(Doubt::Unexplained(addr)) => {
             write!(

@@ -13,7 +13,7 @@ pub(crate) enum HistoryLine {
     Nothing,
     /// `history 1`.
     Head,
-    /// `clock counter` or `clock time`.
+    /// `clock counter` or `clock tsc`.
     Ticks(Clock),
     /// `damaged ..`: a record could not be read.
     Damaged,
@@ -52,6 +52,14 @@ fn number_in(room: &mut Room, word: &[u8]) -> Result<Option<u64>, NoMemory> {
     }
     match room.tokens.as_slice() {
         [Token::Number(number)] => Ok(Some(*number)),
+        _ => Ok(None),
+    }
+}
+
+/// The tick that a word spells. The greatest number is none: it is that of an end which is not known.
+fn tick_in(room: &mut Room, word: &[u8]) -> Result<Option<u64>, NoMemory> {
+    match number_in(room, word)? {
+        Some(tick) if tick != NEVER => Ok(Some(tick)),
         _ => Ok(None),
     }
 }
@@ -155,11 +163,11 @@ fn operation_in(room: &mut Room, text: &[u8]) -> Result<Result<Operation, Wrong>
         return Ok(Err(Wrong::NoInterval));
     };
     let number = number_in(room, thread)?;
-    let begin = number_in(room, begin)?;
+    let begin = tick_in(room, begin)?;
     let end = if end == b"-".as_slice() {
         Some(NEVER)
     } else {
-        number_in(room, end)?
+        tick_in(room, end)?
     };
     let (Some(number), Some(begin), Some(end)) = (number, begin, end) else {
         return Ok(Err(Wrong::NoInterval));
@@ -240,7 +248,7 @@ pub(crate) fn text_of_wrong(wrong: Wrong) -> &'static str {
     match wrong {
         Wrong::TooLong => "longer than 256 bytes",
         Wrong::NoInterval =>
-            "an operation begins with its thread, which is below 256, and two ticks, the second of which may be -",
+            "an operation begins with its thread, which is below 256, and two ticks below 2^64 - 1, the second of which may be -",
         Wrong::NoOperation => "no operation with its reply",
         Wrong::NotJudged =>
             "an operation that no history has: only loads, stores, swaps, munmap, dontneed, and mmap rw fixed, which were made",

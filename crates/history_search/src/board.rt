@@ -26,6 +26,7 @@ pub(crate) struct Step {
     pub(crate) end: u64,
     pub(crate) deed: Deed,
     pub(crate) index: u32,
+    pub(crate) line: u32,
     pub(crate) thread: u8,
     /// Whether it is given a place.
     pub(crate) is_placed: bool,
@@ -65,7 +66,7 @@ pub(crate) struct Move {
 /// Steps, and those that were made.
 #[derive(Drop)]
 pub(crate) struct Board {
-    /// By their threads, and those of a thread as they began.
+    /// By their threads, and those of a thread as it made them.
     pub(crate) steps: Vec<Step>,
     pub(crate) lanes: Vec<Lane>,
     /// The value at each location. The number of the zero of a location is that of the location.

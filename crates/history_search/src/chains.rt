@@ -107,7 +107,13 @@ pub(crate) fn push_member(
 
 /// Sorts members by the values that they found. Of those that found one value, or left it, a store comes first and an exchange last.
 pub(crate) fn sort_by_values(members: &mut [Member]) {
-    members.sort_unstable_by_key(|member| (member.finds, member.kind, member.begin));
+    members.sort_unstable_by_key(|member| (
+        member.finds,
+        member.kind,
+        member.begin,
+        member.end,
+        member.index,
+    ));
 }
 
 /// Adds the members that found a value to their order. Returns the value that an exchange put in its place, if one did.

@@ -1,7 +1,7 @@
 //! Operations that a clock cannot have timed so.
 
 use crate::accesses::short;
-use history::{Contradiction, Operation};
+use history::{Clock, Contradiction, Operation, is_turned};
 use mig_base::NoMemory;
 use std::alloc::Global;
 
@@ -11,12 +11,13 @@ pub(crate) const MOST: usize = 16;
 /// The operations that ended before they began, and those of one thread that overlap.
 pub(crate) fn clock_contradictions(
     alloc: Global,
+    clock: Clock,
     operations: &[Operation],
 ) -> Result<Vec<Contradiction>, NoMemory> {
     let mut found = Vec::new(alloc);
     let mut by_thread: Vec<(u8, u64, u64, u32)> = Vec::new(alloc);
     for (at, operation) in operations.iter().enumerate() {
-        if operation.end <= operation.begin && found.len() < MOST {
+        if is_turned(clock, operation) && found.len() < MOST {
             found.push(Contradiction::Backward { at })?;
         }
         by_thread.push((operation.thread, operation.begin, operation.end, short(at)))?;

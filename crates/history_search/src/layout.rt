@@ -160,12 +160,13 @@ pub(crate) fn lay_out(
                 end: operation.end,
                 deed: layout.deed_of(operation.action),
                 index: *index,
+                line: operation.line,
                 thread: operation.thread,
                 is_placed: fixed.binary_search(index).is_err(),
             })?;
         }
     }
-    steps.sort_unstable_by_key(|step| (step.thread, step.begin));
+    steps.sort_unstable_by_key(|step| (step.thread, step.begin, step.end, step.line));
     board_of(alloc, &layout, steps)
 }
 

@@ -20,6 +20,8 @@ pub enum Doubt {
     Overlaps(u64),
     /// There are too many map calls on pages that are accessed.
     Calls,
+    /// Operations of a thread share ticks, and no order was found step by step that has them as the thread made them.
+    Threads,
     /// No order was found at this address, and no contradiction that can be checked.
     Unexplained(u64),
 }

@@ -10,7 +10,7 @@ use crate::clocks::clock_contradictions;
 use crate::locations::{Doubt, Found};
 use crate::tangles::take_tangles;
 use crate::within::keep_within;
-use history::{Contradiction, Operation};
+use history::{Clock, Contradiction, Operation, is_made_before};
 use mig_base::{NoMemory, PAGE_SIZE};
 use std::alloc::Global;
 
@@ -120,6 +120,58 @@ fn order_of(alloc: Global, placed: &mut Vec<Placed>, count: usize) -> Result<Vec
     Ok(order)
 }
 
+/// Whether the operations of each thread are in the order in which it made them.
+fn keeps_threads(operations: &[Operation], order: &[u32]) -> bool {
+    let mut before: [Option<Operation>; 256] = [None; 256];
+    for index in order {
+        let Some(operation) = operations.get(*index as usize) else {
+            return false;
+        };
+        let Some(last) = before.get_mut(operation.thread as usize) else {
+            return false;
+        };
+        if let Some(last) = last
+            && !is_made_before(last, operation)
+        {
+            return false;
+        }
+        *last = Some(*operation);
+    }
+    true
+}
+
+/// Places all operations step by step. Whether an order was found.
+fn place_all(alloc: Global, found: &mut Found, operations: &[Operation]) -> Result<bool, NoMemory> {
+    let mut indices = Vec::with_capacity(alloc, operations.len())?;
+    for index in 0..operations.len() {
+        indices.push(short(index))?;
+    }
+    found.placed.clear();
+    found.place_steps(alloc, operations, &indices, &[])
+}
+
+/// The order in which the operations were placed. Locations are placed one after the other, and by ticks that differ the operations of a thread
+/// are then as it made them. Where they are not, all are placed step by step: none if no order was found so.
+fn order_of_threads(
+    alloc: Global,
+    clock: Clock,
+    found: &mut Found,
+    operations: &[Operation],
+) -> Result<Proposal, NoMemory>
+    ensures { IfOk result (λ proposal. NamesThose operations.now proposal) }
+{
+    let count = operations.len();
+    let order = order_of(alloc, &mut found.placed, count)?;
+    if clock == Clock::Counter || keeps_threads(operations, &order) {
+        return Ok(Proposal::Order(order));
+    }
+    if !place_all(alloc, found, operations)? {
+        return Ok(Proposal::Nothing(Doubt::Threads));
+    }
+    let order = order_of(alloc, &mut found.placed, count)?;
+    Ok(Proposal::Order(order))
+}
+
 /// Takes all operations of a history. Why nothing can be proposed comes if there is a reason.
 fn find(
     alloc: Global,
@@ -138,11 +190,11 @@ fn find(
 
 /// Proposes an order of the operations of a history, or contradictions in it: each names operations that are there. `NoMemory` comes if room is refused: about 50 bytes an
 /// operation are needed.
-pub fn propose(alloc: Global, operations: &[Operation]) -> Result<Proposal, NoMemory>
+pub fn propose(alloc: Global, clock: Clock, operations: &[Operation]) -> Result<Proposal, NoMemory>
     ensures { IfOk result (λ proposal. NamesThose operations.now proposal) }
 {
     let count = operations.len();
-    let clocks = clock_contradictions(alloc, operations)?;
+    let clocks = clock_contradictions(alloc, clock, operations)?;
     if !clocks.is_empty() {
         return Ok(Proposal::Contradictions(keep_within(alloc, clocks, count)?));
     }
@@ -159,9 +211,6 @@ pub fn propose(alloc: Global, operations: &[Operation]) -> Result<Proposal, NoMe
     }
     match found.doubt {
         Some(doubt) => Ok(Proposal::Nothing(doubt)),
-        None => {
-            let order = order_of(alloc, &mut found.placed, count)?;
-            Ok(Proposal::Order(order))
-        }
+        None => order_of_threads(alloc, clock, &mut found, operations),
     }
 }

@@ -15,7 +15,7 @@ returns c =
       location = OnTrue_at c.if-not-is_location.false c.is_location.ensures;
       reads = Contains-get_or c.args.operations.now c.args.at no_operation c.if-at-operations.false;
       found = c.in-Some.ensures;
-      disturbed = (Contains-get_or c.args.operations.now c.args.mid no_operation c.if-mid-operations.false, c.if-between-reader.false, OnTrue_at c.if-not-disturbs.false c.disturbs.ensures);
+      disturbed = (Contains-get_or c.args.operations.now c.args.mid no_operation c.if-mid-operations.false, OnTrue_at c.if-not-is_before.false c.is_before.ensures, OnTrue_at c.if-not-disturbs.false c.disturbs.ensures);
       sources = without_source c.args.operations.now c.in-Some.read.place c.in-Some.read.value (get_or c.args.operations.now c.args.at no_operation) (Some (get_or c.args.operations.now c.args.mid no_operation)) (OnTrue_at e c.has_no_other.ensures);
     })
     kept.explains)

@@ -9,5 +9,5 @@ returns c =
       leaves = OnTrue_at c.if-not-changes.false c.changes.ensures;
       early_sees = OnTrue_at c.if-not-sees.false c.sees.ensures;
       late_sees = OnTrue_at e c.sees-2.ensures;
-      ended = c.if-value-next-2.false;
+      ended = OnTrue_at c.if-not-is_before.false c.is_before.ensures;
     })
