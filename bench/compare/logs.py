@@ -9,9 +9,9 @@ model's answers: the object's first calls, and then one call at a time. It must 
 the handler, which a script may end in its middle. The scripts are those of `postmig explore`, SEEDS of each profile
 (20), without map calls from `start` on: so far kernel_laws::a_destination_is_logged reaches. --source: logs of the
 source too, which names no thread, as a handler without UFFD_FEATURE_THREAD_ID (a processor of the model may have
-two faults unread, a thread of a kernel one). They are not all certified: the search has no run for a fault of a
-protected page that is read after the protection went. The status is 3 where a log is not certified, and 6 where
-there was none.
+two faults unread, a thread of a kernel one). By kernel_laws::a_source_is_logged each has a run, but not all are
+certified: the search finds none for a fault of a protected page that is read after the protection went. The status
+is 3 where a log is not certified, and 6 where there was none.
 """
 
 import argparse

@@ -27,7 +27,7 @@ use Rattle.kernel_rules.specs.Reads.{first_unread, has_room_for, has_unread, is_
 use Rattle.kernel_rules.specs.State.{Kernel, allowed, is_enabled, noted_if}
 use Rattle.kernel_rules.proofs.Steps.{queues_is}
 use Rattle.kernel_laws.specs.Agreement.{Agree, AgreesAt, AreUnread, Takes, is_message_of, message_of, number_of, telling}
-use Rattle.kernel_laws.specs.Logs.{AreLate, is_late}
+use Rattle.kernel_laws.specs.Logs.{AreNamed, is_named}
 use Rattle.kernel_laws.proofs.Kernels.{is-enabled}
 use Rattle.kernel_laws.proofs.Waiting.{first_unread-append, gone, unread-read}
 
@@ -60,7 +60,7 @@ agree-requeued space kernel name object old new messages agree unread =
 
 -- Noting a difference leaves the rest
 
-noted-faults : (b : Bool) (difference : Difference) (kernel : Kernel) → (noted_if b difference kernel).faults ≡ kernel.faults
+pub noted-faults : (b : Bool) (difference : Difference) (kernel : Kernel) → (noted_if b difference kernel).faults ≡ kernel.faults
 noted-faults true difference kernel = refl
 noted-faults false difference kernel = refl
 
@@ -114,7 +114,7 @@ takes-read kernel after key name object room message enabled fits taken = rw (en
 -- a rule leaves what calls have to tell, and notes no difference but late faults
 pub record Keeps (kernel after : Kernel) : Type 0 where
   pub told : telling after ≡ telling kernel
-  pub late : AreLate kernel → AreLate after
+  pub differs : (stops : Bool) → AreNamed stops kernel → AreNamed stops after
 
 pub keeps-none : (b : Bool) (difference : Difference) (kernel now : Kernel) → b ≡ false → Keeps kernel now → Keeps kernel (noted_if b difference now)
 keeps-none true difference kernel now is keeps = absurd (false≢true (sym is))
@@ -124,7 +124,7 @@ keeps-late : (b : Bool) (kernel now : Kernel) → Keeps kernel now → Keeps ker
 keeps-late true kernel now keeps =
     record {
       told = keeps.told;
-      late = λ h. list_any-append (λ difference. not (is_late difference)) now.differs (FaultOnItsWay ∷ []) ∙ ap (λ b. b || false) (keeps.late h);
+      differs = λ stops h. list_any-append (λ difference. not (is_named stops difference)) now.differs (FaultOnItsWay ∷ []) ∙ ap (λ b. b || false) (keeps.differs stops h);
     }
 keeps-late false kernel now keeps = keeps
 
@@ -174,7 +174,7 @@ fault-read space kernel key name object room noted rest agree enabled faults fit
     let agreed = agree-queued space kernel name object fault agree in
     let waiting : Kernel = record kernel { faults = faults_without kernel.faults fault.thread ++ told ∷ [] } in
     let kept : Keeps kernel now =
-    keeps-none twin FaultOfEachThread kernel (noted_if late FaultOnItsWay waiting) (no-twin kernel.faults name fault way.watched agree.unread.none_queued) (keeps-late late kernel waiting (record { told = refl; late = λ h. h })) in
+    keeps-none twin FaultOfEachThread kernel (noted_if late FaultOnItsWay waiting) (no-twin kernel.faults name fault way.watched agree.unread.none_queued) (keeps-late late kernel waiting (record { told = refl; differs = λ stops h. h })) in
     let first : first_unread now.faults name ≡ Some told =
     ap (λ l. first_unread l name) (queued-faults kernel object fault)
     ∙ first_unread-append (faults_without kernel.faults fault.thread) (told ∷ []) name (gone kernel.faults name fault.thread unread.none_queued)
@@ -188,7 +188,7 @@ fault-read space kernel key name object room noted rest agree enabled faults fit
       queued = is-queued kernel name object fault agree.named way.watched way.found way.seen;
       named = agreed.named;
       taken = takes-read now new key name object room (message_of noted.message) (is-enabled agree ∙ enabled) fits (takes-message now key name object told (message_of noted.message) first way.told);
-      keeps = record { told = kept.told; late = kept.late };
+      keeps = record { told = kept.told; differs = kept.differs };
       agree = agree-requeued space now name object kernel.faults new.faults rest agreed left;
     }
 

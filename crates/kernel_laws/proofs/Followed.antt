@@ -55,7 +55,7 @@ protect-inside space start len bits is =
     third_fails (not space.object.enabled) (ltb 2 bits) (is_bad_range start len) Errno.Einval Errno.Einval Errno.Einval
     ((ltb 0 (changing space.object), Errno.Eagain) ∷ (not (is_every (λ page. contains space.object.protect page) (start / 4096) (len / 4096)), Errno.Enoent) ∷ []) is
 
-no_error : {A : Type 0} (error : Option Errno) (answer given : A) → answered_by error answer ≡ Ok given → error ≡ None
+pub no_error : {A : Type 0} (error : Option Errno) (answer given : A) → answered_by error answer ≡ Ok given → error ≡ None
 no_error None answer given is = refl
 no_error (Some errno) answer given is = absurd (cc)
 

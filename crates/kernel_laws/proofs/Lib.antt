@@ -13,4 +13,8 @@ pub mod FaultReads
 pub mod Accesses
 pub mod EventReads
 pub mod LogRuns
+pub mod DestinationRuns
 pub mod FirstCalls
+pub mod Unnamed
+pub mod SourceRuns
+pub mod SourceOpens

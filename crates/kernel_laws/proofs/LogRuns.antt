@@ -1,23 +1,19 @@
--- The log of a destination without map calls has a run, step by step.
+-- Logs of a node have runs, call by call and step by step.
 use Rattle.kernel_rules.specs.Reads.{first_unread}
 use Rattle.std.proofs.lemmas.Bool.Decides.{nat_tests}
 use Rattle.std.proofs.lemmas.Bool.{false≢true}
 use Rattle.std.proofs.lemmas.List.Elements.{filter_map-append}
 use Rattle.std.proofs.lemmas.Option.{none-some, same_Some}
-use Rattle.std.proofs.Common.{◌≡◌, ℕ, ◌+◌, ◌*◌, ◌≤◌, ◌^◌, Bool, true, false, not, cond, eqb, Option, Some, None, List, [], ◌∷◌, ◌++◌, arith, refl, sym, ap, subst, ◌∙◌, ◌&&◌, ◌/◌}
+use Rattle.std.proofs.Common.{◌≡◌, ℕ, ◌+◌, ◌*◌, ◌≤◌, ◌^◌, Bool, true, false, not, cond, eqb, ltb, Option, Some, None, List, [], ◌∷◌, ◌++◌, length, arith, refl, sym, ap, subst, ◌∙◌, ◌&&◌, ◌/◌}
 use Rattle.std.specs.Prelude.{Result, Ok, Err, is_some, map}
 use Rattle.std.specs.List.{list_any}
 use Rattle.std.specs.FinSet.{contains}
-use Rattle.mig_base.specs.declared.act.Act.{Act}
 use Rattle.mig_base.specs.declared.command.Access.{Access}
 use Rattle.mig_base.specs.declared.command.Access.TheVariants.{Answered, Missing, Protected}
 use Rattle.mig_base.specs.declared.command.Command.{Command}
 use Rattle.mig_base.specs.declared.effect.Effect.{Effect}
-use Rattle.mig_base.specs.declared.phase.DestPhase.{DestPhase}
 use Rattle.mig_base.specs.declared.refusal.Refusal.{Refusal}
-use Rattle.mig_base.specs.declared.schedule.Side.{Side}
 use Rattle.mig_base.specs.declared.schedule.Step.{Step}
-use Rattle.mig_base.specs.Acts.{act_effect}
 use Rattle.mig_base.specs.Bits.{is_one}
 use Rattle.mig_base.specs.Commands.{is_access, is_store, page_of}
 use Rattle.mig_base.specs.Messages.{fault_flags}
@@ -25,28 +21,11 @@ use Rattle.mig_base.specs.Ranges.{in_range}
 use Rattle.mig_base.specs.Tests.{is_empty}
 use Rattle.mig_base.specs.Userfault.{Noted, message_read, next_message, next_of, waits_fault}
 use Rattle.mig_base.proofs.TestLemmas.{eqb-self}
-use Rattle.mig_model.specs.Cpus.{outstanding, processor_at}
-use Rattle.mig_model.specs.Destination.{Destination, destination_acted_by, destination_took, install_by, urgent_took}
-use Rattle.mig_model.specs.Effects.{install_effect}
-use Rattle.mig_model.specs.Faults.{is_in_place}
-use Rattle.mig_model.specs.Guest.{Guest, space_by, tried}
 use Rattle.mig_model.specs.Ioctls.{event_features}
-use Rattle.mig_model.specs.Invariant.{RanAt}
-use Rattle.mig_model.specs.Migration.{World, guest_by, guest_of, next, outcome, with_guest_by}
-use Rattle.mig_model.specs.Promises.{IsReached}
+use Rattle.mig_model.specs.Migration.{World, next, outcome}
 use Rattle.mig_model.specs.Space.{Space, access_of, accessed, accessed_by}
-use Rattle.mig_model.specs.Wire.{Copy, Frame}
-use Rattle.mig_model.specs.Whereabouts.{is_package}
-use Rattle.mig_model.proofs.delivery.FramesTaken.{is_taken}
-use Rattle.mig_model.proofs.invariant.Bounded.{bounded-reached}
-use Rattle.mig_model.proofs.invariant.FaultPages.{inside-reached}
-use Rattle.mig_model.proofs.memory.HandlerCalls.{copy_installed, destination_forgets, destination_wakes, destination_zeroes}
 use Rattle.mig_model.proofs.memory.SpaceLemmas.{IsSoundSpace-accessed}
-use Rattle.mig_model.proofs.steps.PartsChanged.{changes_parts}
-use Rattle.mig_model.proofs.steps.ReachedLemmas.{reached-next}
-use Rattle.mig_model.proofs.steps.StepCases.{made-effect, made-next}
 use Rattle.mig_model.proofs.steps.StepLemmas.{next-refused}
-use Rattle.mig_model.proofs.transcript.WaitingAccesses.{are_accesses, as_many}
 use Rattle.uffd_log.specs.declared.call.Call.TheVariants as call
 use Rattle.uffd_log.specs.declared.call.Descriptor.{Descriptor}
 use Rattle.uffd_log.specs.declared.line.Answer.TheVariants.{Done, Value}
@@ -54,18 +33,27 @@ use Rattle.kernel_rules.specs.declared.difference.Difference.TheVariants.{FaultT
 use Rattle.kernel_rules.specs.declared.fault.Fault.{Fault}
 use Rattle.kernel_rules.specs.declared.object.Object.{Object}
 use Rattle.kernel_rules.specs.declared.run.Made.{Made}
-use Rattle.kernel_rules.specs.Faults.{fault_of, faults_over, is_seen, is_unread, sees, sleeps_in, waits, woken}
+use Rattle.kernel_rules.specs.Faults.{fault_of, faults_over, is_seen, is_unread, sees, sleeps_in, woken}
 use Rattle.kernel_rules.specs.MapCalls.{may_return, returned}
 use Rattle.kernel_rules.specs.Runs as runs
 use Rattle.kernel_rules.specs.Runs.{Event, IsStep, Leads, Outcome, begins, ends, effect_at_end, effect_of, begun_of, is_still, lines_of, line_of, object_of, on_object, takes, world_with}
 use Rattle.kernel_rules.specs.State.{Kernel, allowed, of_object}
 use Rattle.kernel_laws.specs.Agreement.{Agree, AreUntold, Counterparts, Takes, message_of, telling}
 use Rattle.kernel_laws.specs.Handlers.{copies_page, wakes_page, zeroes_page}
-use Rattle.kernel_laws.specs.Logs.{AreLate, Ended, HaveNoMapCalls, IsLogged, IsNoMapCall, IsQuiet, Running, space_after, act_call, answered, at_rest, call_of, install_call, lines_of_call, log_of, read_call}
+use Rattle.kernel_laws.specs.Logs.{AreNamed, Ended, HaveNoMapCalls, IsLogged, IsNoMapCall, IsQuiet, Node, space_after, answered, at_rest, lines_of_call, lines_of_calls, log_of, read_call}
 use Rattle.kernel_laws.specs.Reading.{makes}
 use Rattle.kernel_laws.proofs.Accesses.{makes-taken}
 use Rattle.kernel_laws.proofs.FaultReads.{Keeps, fault-read, keeps-none, none-unread, requeued}
-use Rattle.kernel_laws.proofs.Followed.{followed-copy, followed-wake, followed-zeropage, has-copy}
+use Rattle.mig_base.specs.declared.command.Errno.{Errno}
+use Rattle.mig_base.specs.Tests.{first_holding, is_every}
+use Rattle.mig_base.specs.Userfault.{changing}
+use Rattle.mig_model.specs.Ioctls.{is_bad_range, writeprotect_error}
+use Rattle.kernel_rules.specs.declared.calling.Protecting.{Protecting}
+use Rattle.kernel_rules.specs.declared.difference.Difference.TheVariants.{WriteProtectOverAHole}
+use Rattle.kernel_rules.specs.Ioctls.{kept_pages, pages_set, with_protected, without_protected}
+use Rattle.kernel_rules.specs.State.{each_page, noted_if}
+use Rattle.kernel_laws.specs.Handlers.{protects_pages}
+use Rattle.kernel_laws.proofs.Protects.{each-protected}
 
 -- Runs
 
@@ -74,11 +62,11 @@ leads-append a b c [] more first second = subst (λ w. Leads w more c) (sym firs
 leads-append a b c (step ∷ steps) more first second = (first.0, first.1, leads-append first.0 b c steps more first.2 second)
 
 -- nothing happens
-pub stays : (one : Counterparts) (space : Space) → one.space ≡ space → IsQuiet one.kernel → IsLogged one [] space
-stays one space same quiet = record { steps = []; last = one; whole = refl; leads = refl; leaves = same; name = refl; quiet = quiet; late = λ h. h }
+pub stays : (stops : Bool) (one : Counterparts) (space : Space) → one.space ≡ space → IsQuiet one.kernel → IsLogged stops one [] space
+stays stops one space same quiet = record { steps = []; last = one; whole = refl; leads = refl; leaves = same; name = refl; quiet = quiet; differs = λ h. h }
 
-pub then-logged : (one : Counterparts) (lines more : List Event) (space last : Space) → (first : IsLogged one lines space) → IsLogged first.last more last → IsLogged one (lines ++ more) last
-then-logged one lines more space last first second =
+pub then-logged : (stops : Bool) (one : Counterparts) (lines more : List Event) (space last : Space) → (first : IsLogged stops one lines space) → IsLogged stops first.last more last → IsLogged stops one (lines ++ more) last
+then-logged stops one lines more space last first second =
     record {
       steps = first.steps ++ second.steps;
       last = second.last;
@@ -87,7 +75,7 @@ then-logged one lines more space last first second =
       leaves = second.leaves;
       name = second.name ∙ first.name;
       quiet = second.quiet;
-      late = λ h. second.late (first.late h);
+      differs = λ h. second.differs (first.differs h);
     }
 
 -- A call that has returned
@@ -139,10 +127,10 @@ call-leads kernel after key ended taken still out quiet =
       (record { kernel = after; begun = over ∷ [] }, takes-effect kernel after made ended.out taken, (at_rest (returned after key), returns, refl)),
     )
 
-logged-call : (one : Counterparts) (kernel after : Kernel) (key : ℕ) (ended : Ended) (object : Object) (space : Space) (before : List runs.Step) → lines_of before ≡ [] → Leads (at_rest one.kernel) before (at_rest kernel) →
-    takes kernel (record { key = key; space = 0; call = ended.call; last = false }) ended.out ≡ Some after → is_still ended.out ≡ true → Some ended.out ≡ effect_at_end ended.out.answer ended.out → IsQuiet after → (AreLate one.kernel → AreLate after) → Agree space after one.name object →
-    IsLogged one (lines_of_call key (Some ended)) space
-logged-call one kernel after key ended object space before none first taken still out quiet late agree =
+logged-call : (stops : Bool) (one : Counterparts) (kernel after : Kernel) (key : ℕ) (ended : Ended) (object : Object) (space : Space) (before : List runs.Step) → lines_of before ≡ [] → Leads (at_rest one.kernel) before (at_rest kernel) →
+    takes kernel (record { key = key; space = 0; call = ended.call; last = false }) ended.out ≡ Some after → is_still ended.out ≡ true → Some ended.out ≡ effect_at_end ended.out.answer ended.out → IsQuiet after → (AreNamed stops one.kernel → AreNamed stops after) → Agree space after one.name object →
+    IsLogged stops one (lines_of_call key ended) space
+logged-call stops one kernel after key ended object space before none first taken still out quiet differs agree =
     record {
       steps = before ++ call_steps key ended;
       last = record { space = space; kernel = returned after key; name = one.name; object = object; agree = agree-returned space after key one.name object quiet agree };
@@ -151,16 +139,16 @@ logged-call one kernel after key ended object space before none first taken stil
       leaves = refl;
       name = refl;
       quiet = told-returned after key quiet;
-      late = late;
+      differs = differs;
     }
 
 -- a rule of one call that has taken it
-pub logged-rule : (one : Counterparts) (key : ℕ) (on : Descriptor) (ended : Ended) (rule : Option Kernel) (space : Space) → on.object ≡ one.name → object_of ended.call ≡ Some on.object → on_object one.kernel key one.name one.object false ended.out ended.call ≡ rule →
+pub logged-rule : (stops : Bool) (one : Counterparts) (key : ℕ) (on : Descriptor) (ended : Ended) (rule : Option Kernel) (space : Space) → on.object ≡ one.name → object_of ended.call ≡ Some on.object → on_object one.kernel key one.name one.object false ended.out ended.call ≡ rule →
     is_still ended.out ≡ true → Some ended.out ≡ effect_at_end ended.out.answer ended.out → ((after : Kernel) → rule ≡ Some after → Keeps one.kernel after) → IsQuiet one.kernel → Takes rule space one.name →
-    IsLogged one (lines_of_call key (Some ended)) space
-logged-rule one key on ended rule space own called is still out keeps quiet takes_it =
+    IsLogged stops one (lines_of_call key ended) space
+logged-rule stops one key on ended rule space own called is still out keeps quiet takes_it =
     let kept = keeps takes_it.kernel takes_it.taken in
-    logged-call one one.kernel takes_it.kernel key ended takes_it.object space [] refl refl (taken-by one key on ended rule takes_it.kernel own called is takes_it.taken) still out (kept.told ∙ quiet) kept.late takes_it.agree
+    logged-call stops one one.kernel takes_it.kernel key ended takes_it.object space [] refl refl (taken-by one key on ended rule takes_it.kernel own called is takes_it.taken) still out (kept.told ∙ quiet) (kept.differs stops) takes_it.agree
   where
     taken-by : (one : Counterparts) (key : ℕ) (on : Descriptor) (ended : Ended) (rule : Option Kernel) (after : Kernel) → on.object ≡ one.name → object_of ended.call ≡ Some on.object →
         on_object one.kernel key one.name one.object false ended.out ended.call ≡ rule → rule ≡ Some after → takes one.kernel (record { key = key; space = 0; call = ended.call; last = false }) ended.out ≡ Some after
@@ -185,7 +173,7 @@ woken-keeps : (kernel put : Kernel) (name first count : ℕ) (answered : Bool) �
 woken-keeps kernel put name first count answered none keeps =
     let test = λ (fault : Fault). sleeps_in name first count fault && is_unread fault.phase in
     keeps-none (list_any test put.faults) FaultTakenAway kernel (faults_over put (sleeps_in name first count) answered)
-    (none-unread test name (λ fault h. asleep-unread (eqb fault.object name) (in_range first count fault.page) (not (is_seen fault.phase)) (is_unread fault.phase) h) put.faults none) (record { told = keeps.told; late = keeps.late })
+    (none-unread test name (λ fault h. asleep-unread (eqb fault.object name) (in_range first count fault.page) (not (is_seen fault.phase)) (is_unread fault.phase) h) put.faults none) (record { told = keeps.told; differs = keeps.differs })
 
 put-keeps : (kernel put : Kernel) (name first count : ℕ) (b : Bool) → first_unread put.faults name ≡ None → Keeps kernel put → Keeps kernel (cond b put (woken put (sleeps_in name first count) true))
 put-keeps kernel put name first count true none keeps = keeps
@@ -193,16 +181,53 @@ put-keeps kernel put name first count false none keeps = woken-keeps kernel put 
 
 zeroed-keeps : (one : Counterparts) (key addr : ℕ) (after : Kernel) → zeroes_page one key addr ≡ Some after → Keeps one.kernel after
 zeroed-keeps one key addr after is =
-    subst (Keeps one.kernel) (allowed-is _ _ after is) (put-keeps one.kernel _ one.name (addr / 4096) (4096 / 4096) (is_one 0 0) one.agree.unread.none_queued (record { told = refl; late = λ h. h }))
+    subst (Keeps one.kernel) (allowed-is _ _ after is) (put-keeps one.kernel _ one.name (addr / 4096) (4096 / 4096) (is_one 0 0) one.agree.unread.none_queued (record { told = refl; differs = λ stops h. h }))
 
 copied-keeps : (one : Counterparts) (key from addr : ℕ) (after : Kernel) → copies_page one key from addr ≡ Some after → Keeps one.kernel after
 copied-keeps one key from addr after is =
     subst (Keeps one.kernel) (allowed-is _ _ after (unless-none _ _ after is))
-    (put-keeps one.kernel _ one.name (addr / 4096) (4096 / 4096) (is_one 0 0) one.agree.unread.none_queued (record { told = refl; late = λ h. h }))
+    (put-keeps one.kernel _ one.name (addr / 4096) (4096 / 4096) (is_one 0 0) one.agree.unread.none_queued (record { told = refl; differs = λ stops h. h }))
 
 waked-keeps : (one : Counterparts) (addr : ℕ) (after : Kernel) → wakes_page one addr ≡ Some after → Keeps one.kernel after
 waked-keeps one addr after is =
-    subst (Keeps one.kernel) (allowed-is _ _ after is) (woken-keeps one.kernel one.kernel one.name (addr / 4096) (4096 / 4096) true one.agree.unread.none_queued (record { told = refl; late = λ h. h }))
+    subst (Keeps one.kernel) (allowed-is _ _ after is) (woken-keeps one.kernel one.kernel one.name (addr / 4096) (4096 / 4096) true one.agree.unread.none_queued (record { told = refl; differs = λ stops h. h }))
+
+-- UFFDIO_WRITEPROTECT: each page of the range is registered for it, and no page of it is protected before the others
+
+-- the kernel once the pages of a range are protected but those that the call has protected before
+abbrev kept_from : Kernel → Object → (key first count bits : ℕ) → List Protecting → Kernel
+kept_from kernel object key first count bits begun = without_protected (pages_set (with_protected kernel object first count (is_one bits 0)) object.space (kept_pages kernel key object.space begun)) key
+
+kept-keeps : (one : Counterparts) (key first count bits : ℕ) →
+    Keeps one.kernel (kept_from one.kernel one.object key first count bits one.kernel.protected) × (first_unread (kept_from one.kernel one.object key first count bits one.kernel.protected).faults one.name ≡ None)
+kept-keeps one key first count bits =
+    subst (λ begun. Keeps one.kernel (kept_from one.kernel one.object key first count bits begun) × (first_unread (kept_from one.kernel one.object key first count bits begun).faults one.name ≡ None)) (sym one.agree.alone)
+    (record { told = refl; differs = λ stops h. h }, one.agree.unread.none_queued)
+
+no-hole : (one : Counterparts) (first count : ℕ) (now : Kernel) → is_every (λ page. contains one.space.object.protect page) first count ≡ true →
+    noted_if (not (each_page one.kernel one.object.space first count (λ page. page.protect))) WriteProtectOverAHole now ≡ now
+no-hole one first count now every = ap (λ b. noted_if (not b) WriteProtectOverAHole now) (each-protected one.space one.kernel one.name one.object first count one.agree every)
+
+wakes-keeps : (kernel put : Kernel) (name first count : ℕ) (b : Bool) → first_unread put.faults name ≡ None → Keeps kernel put → Keeps kernel (cond b (woken put (sleeps_in name first count) true) put)
+wakes-keeps kernel put name first count true none keeps = woken-keeps kernel put name first count true none keeps
+wakes-keeps kernel put name first count false none keeps = keeps
+
+is-each : (a b c d e : Bool) (v w x y z : Errno) → first_holding ((a, v) ∷ (b, w) ∷ (c, x) ∷ (d, y) ∷ (not e, z) ∷ []) ≡ None → e ≡ true
+is-each a b c d e v w x y z is = grind (arith, nat_tests)
+
+protects-each : (space : Space) (addr len bits : ℕ) → writeprotect_error space addr len bits ≡ None → is_every (λ page. contains space.object.protect page) (addr / 4096) (len / 4096) ≡ true
+protects-each space addr len bits is =
+    is-each (not space.object.enabled) (ltb 2 bits) (is_bad_range addr len) (ltb 0 (changing space.object)) (is_every (λ page. contains space.object.protect page) (addr / 4096) (len / 4096)) Errno.Einval Errno.Einval Errno.Einval Errno.Eagain Errno.Enoent is
+
+protected-keeps : (one : Counterparts) (key addr len bits : ℕ) (after : Kernel) → writeprotect_error one.space addr len bits ≡ None → protects_pages one key addr len bits ≡ Some after → Keeps one.kernel after
+protected-keeps one key addr len bits after error is =
+    let first = addr / 4096 in
+    let count = len / 4096 in
+    let kept = kept_from one.kernel one.object key first count bits one.kernel.protected in
+    let both = kept-keeps one key first count bits in
+    subst (Keeps one.kernel) (allowed-is _ _ after is)
+    (subst (λ put. Keeps one.kernel (cond (eqb bits 0) (woken put (sleeps_in one.name first count) true) put)) (sym (no-hole one first count kept (protects-each one.space addr len bits error)))
+    (wakes-keeps one.kernel kept one.name first count (eqb bits 0) both.1 both.0))
 
 -- Threads
 
@@ -231,8 +256,8 @@ seen-keeps : (found : Option Object) (test : Object → Bool) (now : Object → 
 seen-keeps None test now kernel after keeps is = absurd (none-some after is)
 seen-keeps (Some object) test now kernel after keeps is = subst (Keeps kernel) (allowed-is _ _ after is) (keeps object)
 
-logged-seen : (one : Counterparts) (thread page flags : ℕ) (b : Bool) (space : Space) → IsQuiet one.kernel → Takes (cond b (Some one.kernel) (sees one.kernel thread one.name page flags)) space one.name → IsLogged one [] space
-logged-seen one thread page flags true space quiet it =
+logged-seen : (stops : Bool) (one : Counterparts) (thread page flags : ℕ) (b : Bool) (space : Space) → IsQuiet one.kernel → Takes (cond b (Some one.kernel) (sees one.kernel thread one.name page flags)) space one.name → IsLogged stops one [] space
+logged-seen stops one thread page flags true space quiet it =
     record {
       steps = [];
       last = record { space = space; kernel = it.kernel; name = one.name; object = it.object; agree = it.agree };
@@ -241,10 +266,10 @@ logged-seen one thread page flags true space quiet it =
       leaves = refl;
       name = refl;
       quiet = ap telling (sym (same_Some one.kernel it.kernel it.taken)) ∙ quiet;
-      late = subst AreLate (same_Some one.kernel it.kernel it.taken);
+      differs = subst (AreNamed stops) (same_Some one.kernel it.kernel it.taken);
     }
-logged-seen one thread page flags false space quiet it =
-    let kept = seen-keeps (one.kernel.objects one.name) _ _ one.kernel it.kernel (λ object. record { told = refl; late = λ h. h }) it.taken in
+logged-seen stops one thread page flags false space quiet it =
+    let kept = seen-keeps (one.kernel.objects one.name) _ _ one.kernel it.kernel (λ object. record { told = refl; differs = λ stops h. h }) it.taken in
     record {
       steps = runs.Step.thread_sees thread one.name page flags ∷ [];
       last = record { space = space; kernel = it.kernel; name = one.name; object = it.object; agree = it.agree };
@@ -253,15 +278,15 @@ logged-seen one thread page flags false space quiet it =
       leaves = refl;
       name = refl;
       quiet = kept.told ∙ quiet;
-      late = kept.late;
+      differs = kept.differs stops;
     }
 
-logged-made : (one : Counterparts) (cpu thread : ℕ) (command : Command) (access : Access) → IsQuiet one.kernel → Takes (makes access one thread command) (accessed_by access one.space cpu command) one.name → IsLogged one [] (accessed_by access one.space cpu command)
-logged-made one cpu thread command (Answered reply) quiet it = logged-seen one thread 0 0 true (accessed_by (Answered reply) one.space cpu command) quiet it
-logged-made one cpu thread command Missing quiet it =
-    logged-seen one thread (page_of command) (fault_flags (is_store command) false) (waits_fault one.space.object.faults (4096 * page_of command) false) (accessed_by Missing one.space cpu command) quiet it
-logged-made one cpu thread command Protected quiet it =
-    logged-seen one thread (page_of command) (fault_flags true true) (waits_fault one.space.object.faults (4096 * page_of command) true) (accessed_by Protected one.space cpu command) quiet it
+logged-made : (stops : Bool) (one : Counterparts) (cpu thread : ℕ) (command : Command) (access : Access) → IsQuiet one.kernel → Takes (makes access one thread command) (accessed_by access one.space cpu command) one.name → IsLogged stops one [] (accessed_by access one.space cpu command)
+logged-made stops one cpu thread command (Answered reply) quiet it = logged-seen stops one thread 0 0 true (accessed_by (Answered reply) one.space cpu command) quiet it
+logged-made stops one cpu thread command Missing quiet it =
+    logged-seen stops one thread (page_of command) (fault_flags (is_store command) false) (waits_fault one.space.object.faults (4096 * page_of command) false) (accessed_by Missing one.space cpu command) quiet it
+logged-made stops one cpu thread command Protected quiet it =
+    logged-seen stops one thread (page_of command) (fault_flags true true) (waits_fault one.space.object.faults (4096 * page_of command) true) (accessed_by Protected one.space cpu command) quiet it
 
 no_thread_ids : is_one event_features 8 ≡ false
 unfolding is_one
@@ -269,115 +294,36 @@ no_thread_ids = refl
 
 -- What a destination that runs has
 
-accessed-logged : (at : Running) (cpu : ℕ) (command : Command) → is_access command ≡ true →
-    IsLogged at.one [] (accessed at.world.destination.guest.space cpu command)
-accessed-logged at cpu command access =
-    let world = at.world in
-    let one = at.one in
-    let all = bounded-reached world at.reached in
-    let opened = all.opened.destination at.ran in
-    let space = world.destination.guest.space in
+-- the object asked for no thread numbers, and its pages are registered for missing faults if for any
+pub accessed-logged : (stops : Bool) (one : Counterparts) (cpu : ℕ) (command : Command) → is_access command ≡ true → IsQuiet one.kernel → one.space.object.enabled ≡ true → is_one one.space.object.features 8 ≡ false →
+    (contains one.space.object.protect (page_of command) ≡ true → contains one.space.object.missing (page_of command) ≡ true) → IsLogged stops one [] (accessed one.space cpu command)
+accessed-logged stops one cpu command access quiet enabled unnamed watched =
     let thread = fresh_thread one.kernel.faults in
-    subst (λ s. IsLogged one [] (accessed s cpu command)) at.same
-    (logged-made one cpu thread command (access_of one.space command) at.quiet
-    (makes-taken one cpu thread command (access_of one.space command) access (ap (λ (s : Space). s.object.enabled) at.same ∙ opened.enabled) (idle one.kernel.faults)
-    (λ ids. absurd (false≢true (sym no_thread_ids ∙ sym (ap (λ (s : Space). is_one s.object.features 8) at.same ∙ ap (λ n. is_one n 8) opened.asked) ∙ ids)))
-    (λ protect. absurd (false≢true (sym (ap (λ (s : Space). contains s.object.protect (page_of command)) at.same ∙ all.ready.kept.spaces.only_missing (page_of command)) ∙ protect)))
-    (IsSoundSpace-accessed one.space cpu command access one.agree.sound) refl))
+    logged-made stops one cpu thread command (access_of one.space command) quiet
+    (makes-taken one cpu thread command (access_of one.space command) access enabled (idle one.kernel.faults) (λ ids. absurd (false≢true (sym unnamed ∙ ids))) watched
+    (IsSoundSpace-accessed one.space cpu command access one.agree.sound) refl)
 
-command-space : (ran : Bool) (world : World) (cpu : ℕ) (command : Command) → ran ≡ true → is_access command ≡ true →
-    (with_guest_by ran world (tried (is_access command) (guest_by ran world.source.guest world.destination.guest) cpu command)).destination.guest.space ≡ accessed world.destination.guest.space cpu command
-command-space true world cpu command ran access = ap (λ b. space_by b world.destination.guest.space cpu command) access
-command-space false world cpu command ran access = absurd (false≢true ran)
+-- A step of a handler
 
--- A step of the handler
+-- the calls of a step of a handler, by its outcome
+abbrev made-calls : (Effect → List Ended) → Result Effect Refusal → List Ended
+made-calls calls (Ok effect) = calls effect
+made-calls calls (Err refusal) = []
 
--- the call of a step of the handler, by its outcome
-abbrev made-call : (Effect → Option Ended) → Result Effect Refusal → Option Ended
-made-call call (Ok effect) = call effect
-made-call call (Err refusal) = None
+pub by-result : (node : Node) (world : World) (step : Step) (one : Counterparts) (calls : Effect → List Ended) (key : ℕ) (result : Result Effect Refusal) → one.space ≡ node.space world → IsQuiet one.kernel → outcome world step ≡ result →
+    ((effect : Effect) → outcome world step ≡ Ok effect → IsLogged node.stops one (lines_of_calls key (calls effect)) (node.space (next world step))) →
+    IsLogged node.stops one (lines_of_calls key (made-calls calls result)) (node.space (next world step))
+by-result node world step one calls key (Ok effect) same quiet is made = made effect is
+by-result node world step one calls key (Err refusal) same quiet is made = stays node.stops one (node.space (next world step)) (same ∙ sym (ap node.space (next-refused world step refusal is))) quiet
 
-by-result : (world : World) (step : Step) (one : Counterparts) (call : Effect → Option Ended) (key : ℕ) (result : Result Effect Refusal) → one.space ≡ world.destination.guest.space → IsQuiet one.kernel → outcome world step ≡ result →
-    ((effect : Effect) → outcome world step ≡ Ok effect → IsLogged one (lines_of_call key (call effect)) (next world step).destination.guest.space) →
-    IsLogged one (lines_of_call key (made-call call result)) (next world step).destination.guest.space
-by-result world step one call key (Ok effect) same quiet is made = made effect is
-by-result world step one call key (Err refusal) same quiet is made = stays one (next world step).destination.guest.space (same ∙ sym (ap (λ (w : World). w.destination.guest.space) (next-refused world step refusal is))) quiet
+-- read(2)
 
--- DestAct
-acted-space : (on : Descriptor) (act : Act) (node : Destination) (page addr : ℕ) → act_call on (act_effect act addr) ≡ None → (destination_acted_by act node page).guest.space ≡ node.guest.space
-acted-space on Act.Unprotected node page addr none = refl
-acted-space on Act.Zeroed node page addr none = absurd (none-some _ (sym none))
-acted-space on Act.Woke node page addr none = refl
-acted-space on Act.Forgot node page addr none = refl
-acted-space on (Act.Requested origin) node page addr none = refl
-
-no-act : (world : World) (on : Descriptor) (effect : Effect) → outcome world Step.DestAct ≡ Ok effect → act_call on effect ≡ None → (next world Step.DestAct).destination.guest.space ≡ world.destination.guest.space
-no-act world on effect is =
-    made-effect (λ effect new. act_call on effect ≡ None → new.destination.guest.space ≡ world.destination.guest.space) world Step.DestAct effect
-    (λ fault rest first ran quiet. acted-space on _ world.destination fault.page (4096 * fault.page)) is
-
-act-logged : (at : Running) (key : ℕ) (effect : Effect) → outcome at.world Step.DestAct ≡ Ok effect →
-    IsLogged at.one (lines_of_call key (act_call at.on effect)) (next at.world Step.DestAct).destination.guest.space
-unfolding on_object
-act-logged at key (Effect.Zeroed addr) is =
-    let world = at.world in
-    let one = at.one in
-    let all = bounded-reached world at.reached in
-    logged-rule one key at.on (answered (call.ZeroPage at.on addr 4096 0) (Value 4096)) (zeroes_page one key addr) (next world Step.DestAct).destination.guest.space at.own refl refl refl refl (zeroed-keeps one key addr) at.quiet
-    (followed-zeropage one world.destination.guest (next world Step.DestAct).destination.guest key addr at.same (destination_zeroes at.reached.cpus world addr all is))
-act-logged at key (Effect.Woke addr) is =
-    let world = at.world in
-    let one = at.one in
-    let all = bounded-reached world at.reached in
-    logged-rule one key at.on (answered (call.Wake at.on addr 4096) Done) (wakes_page one addr) (next world Step.DestAct).destination.guest.space at.own refl refl refl refl (waked-keeps one addr) at.quiet
-    (followed-wake one world.destination.guest (next world Step.DestAct).destination.guest addr at.same (destination_wakes at.reached.cpus world addr all (inside-reached world at.reached) is))
-act-logged at key (Effect.Forgot addr) is =
-    let world = at.world in
-    let one = at.one in
-    let all = bounded-reached world at.reached in
-    logged-rule one key at.on (answered (call.Wake at.on addr 4096) Done) (wakes_page one addr) (next world Step.DestAct).destination.guest.space at.own refl refl refl refl (waked-keeps one addr) at.quiet
-    (followed-wake one world.destination.guest (next world Step.DestAct).destination.guest addr at.same (destination_forgets at.reached.cpus world addr all (inside-reached world at.reached) is))
-act-logged at key effect is =
-    let world = at.world in
-    stays at.one (next world Step.DestAct).destination.guest.space (at.same ∙ sym (no-act world at.on effect is refl)) at.quiet
-
--- Install
-installed-space : (on : Descriptor) (from : ℕ) (home : Option ℕ) (node : Destination) (copy : Copy) (rest : List Copy) (origin : ℕ) → install_call on from (install_effect home origin) ≡ None → (install_by home node copy rest).guest.space ≡ node.guest.space
-installed-space on from None node copy rest origin none = refl
-installed-space on from (Some page) node copy rest origin none = absurd (none-some _ (sym none))
-
-no-install : (world : World) (on : Descriptor) (from : ℕ) (effect : Effect) → outcome world Step.Install ≡ Ok effect → install_call on from effect ≡ None → (next world Step.Install).destination.guest.space ≡ world.destination.guest.space
-no-install world on from effect is =
-    made-effect (λ effect new. install_call on from effect ≡ None → new.destination.guest.space ≡ world.destination.guest.space) world Step.Install effect
-    (λ copy rest first ran quiet. installed-space on from _ world.destination copy rest copy.page) is
-
-install-logged : (at : Running) (key : ℕ) (effect : Effect) →
-    outcome at.world Step.Install ≡ Ok effect → IsLogged at.one (lines_of_call key (install_call at.on at.from effect)) (next at.world Step.Install).destination.guest.space
-unfolding on_object
-install-logged at key (Effect.Installed addr origin) is =
-    let world = at.world in
-    let one = at.one in
-    let all = bounded-reached world at.reached in
-    let has = has-copy world addr origin is in
-    logged-rule one key at.on (answered (call.Copy at.on addr at.from 4096 0) (Value 4096)) (copies_page one key at.from addr) (next world Step.Install).destination.guest.space at.own refl refl refl refl (copied-keeps one key at.from addr) at.quiet
-    (followed-copy one world.destination.guest (next world Step.Install).destination.guest key at.from addr has.0.bytes at.same (copy_installed at.reached.cpus world has.0 has.1 addr origin all has.2 is).0 at.source)
-install-logged at key effect is =
-    let world = at.world in
-    stays at.one (next world Step.Install).destination.guest.space (at.same ∙ sym (no-install world at.on at.from effect is refl)) at.quiet
-
--- DestRead
 no-events : (events : List Noted) → map (λ (noted : Noted). message_of noted.message) events ≡ [] → events ≡ []
 no-events [] is = refl
 no-events (noted ∷ events) is = absurd (false≢true (ap is_empty is))
 
 quiet-events : (one : Counterparts) → IsQuiet one.kernel → one.space.object.events ≡ []
 quiet-events one quiet = no-events one.space.object.events (sym (subst (λ k. AreUntold one.name k one.space.object.events) quiet one.agree.untold).same)
-
-is-read : (world : World) (effect : Effect) → outcome world Step.DestRead ≡ Ok effect →
-    (noted : Noted) × (next_message world.destination.guest.space.object ≡ Some noted) × ((next world Step.DestRead).destination.guest.space ≡ record world.destination.guest.space { object = message_read world.destination.guest.space.object })
-is-read world effect is =
-    made-effect (λ effect new. (noted : Noted) × (next_message world.destination.guest.space.object ≡ Some noted) × (new.destination.guest.space ≡ record world.destination.guest.space { object = message_read world.destination.guest.space.object }))
-    world Step.DestRead effect (λ noted next ran. (noted, next, refl)) is
 
 first-fault : (faults events : List Noted) (noted : Noted) → events ≡ [] → next_of faults events ≡ Some noted → (rest : List Noted) × (faults ≡ noted ∷ rest)
 first-fault [] events noted none is = absurd (none-some noted (sym (ap (next_of []) none) ∙ is))
@@ -386,169 +332,65 @@ first-fault (fault ∷ faults) events noted none is = (faults, ap (λ n. n ∷ f
 read-space : (space : Space) (noted : Noted) (rest : List Noted) → space.object.faults ≡ noted ∷ rest → record space { object = message_read space.object } ≡ requeued space rest space.object.events
 read-space space noted rest faults = rw faults refl
 
-read-logged : (at : Running) (key : ℕ) (effect : Effect) → outcome at.world Step.DestRead ≡ Ok effect →
-    IsLogged at.one (lines_of_call key (read_call at.on (next_message at.world.destination.guest.space.object))) (next at.world Step.DestRead).destination.guest.space
+-- the next message is that of a page fault, since no event is unread
+pub read-logged : (stops : Bool) (one : Counterparts) (key : ℕ) (on : Descriptor) (noted : Noted) → on.object ≡ one.name → IsQuiet one.kernel → one.space.object.enabled ≡ true → next_message one.space.object ≡ Some noted →
+    IsLogged stops one (lines_of_calls key (read_call on (Some noted))) (record one.space { object = message_read one.space.object })
 unfolding on_object
-read-logged at key effect is =
-    let world = at.world in
-    let one = at.one in
-    let all = bounded-reached world at.reached in
-    let space = world.destination.guest.space in
-    let it = is-read world effect is in
-    let noted = it.0 in
-    let first = first-fault space.object.faults space.object.events noted (sym (ap (λ (s : Space). s.object.events) at.same) ∙ quiet-events one at.quiet) it.1 in
-    let faults = ap (λ (s : Space). s.object.faults) at.same ∙ first.1 in
-    let took = fault-read one.space one.kernel key one.name one.object None noted first.0 one.agree (ap (λ (s : Space). s.object.enabled) at.same ∙ (all.opened.destination at.ran).enabled) faults refl in
-    let ended : Ended = record { call = call.Read at.on None; out = record { answer = Value 1; messages = message_of noted.message ∷ []; runs = [] } } in
-    let after : requeued one.space first.0 one.space.object.events ≡ (next world Step.DestRead).destination.guest.space =
-    sym (read-space one.space noted first.0 faults) ∙ ap (λ (s : Space). record s { object = message_read s.object }) at.same ∙ sym it.2 in
-    subst (λ o. IsLogged one (lines_of_call key (read_call at.on o)) (next world Step.DestRead).destination.guest.space) (sym it.1)
-    (subst (IsLogged one (lines_of_call key (Some ended))) after
-    (logged-call one took.now took.new key ended one.object (requeued one.space first.0 one.space.object.events) (runs.Step.thread_queues took.thread ∷ []) refl
+read-logged stops one key on noted own quiet enabled is =
+    let space = one.space in
+    let first = first-fault space.object.faults space.object.events noted (quiet-events one quiet) is in
+    let took = fault-read space one.kernel key one.name one.object None noted first.0 one.agree enabled first.1 refl in
+    let ended : Ended = record { call = call.Read on None; out = record { answer = Value 1; messages = message_of noted.message ∷ []; runs = [] } } in
+    subst (IsLogged stops one (lines_of_calls key (ended ∷ []))) (sym (read-space space noted first.0 first.1))
+    (logged-call stops one took.now took.new key ended one.object (requeued space first.0 space.object.events) (runs.Step.thread_queues took.thread ∷ []) refl
     (at_rest took.now, ap (λ o. world_with (at_rest one.kernel) o) took.queued, refl)
-    (ap (λ n. of_object (took.now.objects n) (λ object. on_object took.now key n object false ended.out ended.call)) at.own ∙ ap (λ o. of_object o (λ object. on_object took.now key one.name object false ended.out ended.call)) took.named ∙ took.taken)
-    refl refl (took.keeps.told ∙ at.quiet) took.keeps.late took.agree))
+    (ap (λ n. of_object (took.now.objects n) (λ object. on_object took.now key n object false ended.out ended.call)) own ∙ ap (λ o. of_object o (λ object. on_object took.now key one.name object false ended.out ended.call)) took.named ∙ took.taken)
+    refl refl (took.keeps.told ∙ quiet) (took.keeps.differs stops) took.agree)
 
--- Frames
+-- One call that has done its work
 
-no-package : (phase : DestPhase) (frame : Frame) (ran ended : Bool) → RanAt phase ran ended → ran ≡ true → is_in_place phase frame ≡ true → is_package frame ≡ false
-no-package phase frame ran ended at is place = grind (arith, nat_tests)
+pub zeropage-logged : (stops : Bool) (one : Counterparts) (key : ℕ) (on : Descriptor) (addr : ℕ) (space : Space) → on.object ≡ one.name → IsQuiet one.kernel → Takes (zeroes_page one key addr) space one.name →
+    IsLogged stops one (lines_of_calls key (answered (call.ZeroPage on addr 4096 0) (Value 4096) ∷ [])) space
+unfolding on_object
+zeropage-logged stops one key on addr space own quiet it =
+    logged-rule stops one key on (answered (call.ZeroPage on addr 4096 0) (Value 4096)) (zeroes_page one key addr) space own refl refl refl refl (zeroed-keeps one key addr) quiet it
 
-took-guest : (node : Destination) (epoch : ℕ) (frame : Frame) → node.has_run ≡ true → is_package frame ≡ false → (destination_took node epoch frame).guest ≡ node.guest
-took-guest node epoch frame ran none = grind (arith, nat_tests)
+pub wake-logged : (stops : Bool) (one : Counterparts) (key : ℕ) (on : Descriptor) (addr : ℕ) (space : Space) → on.object ≡ one.name → IsQuiet one.kernel → Takes (wakes_page one addr) space one.name →
+    IsLogged stops one (lines_of_calls key (answered (call.Wake on addr 4096) Done ∷ [])) space
+unfolding on_object
+wake-logged stops one key on addr space own quiet it =
+    logged-rule stops one key on (answered (call.Wake on addr 4096) Done) (wakes_page one addr) space own refl refl refl refl (waked-keeps one addr) quiet it
 
-urgent-guest : (node : Destination) (frame : Frame) → (urgent_took node frame).guest ≡ node.guest
-urgent-guest node frame = grind (arith, nat_tests)
+pub copy-logged : (stops : Bool) (one : Counterparts) (key from : ℕ) (on : Descriptor) (addr : ℕ) (space : Space) → on.object ≡ one.name → IsQuiet one.kernel → Takes (copies_page one key from addr) space one.name →
+    IsLogged stops one (lines_of_calls key (answered (call.Copy on addr from 4096 0) (Value 4096) ∷ [])) space
+unfolding on_object
+copy-logged stops one key from on addr space own quiet it =
+    logged-rule stops one key on (answered (call.Copy on addr from 4096 0) (Value 4096)) (copies_page one key from addr) space own refl refl refl refl (copied-keeps one key from addr) quiet it
 
-delivered-guest : (at : Running) (n : ℕ) → (next at.world (Step.Deliver n)).destination.guest ≡ at.world.destination.guest
-delivered-guest at n =
-    let world = at.world in
-    let all = bounded-reached world at.reached in
-    let kept = all.ready.kept in
-    made-next (λ new. new.destination.guest ≡ world.destination.guest) world (Step.Deliver n) refl (
-      (λ sent rest first short. refl),
-      (λ sent rest first full started up free early.
-          took-guest world.destination sent.epoch sent.frame at.ran
-          (no-package world.destination.phase sent.frame world.destination.has_run world.destination.ended kept.phases.destination_phase at.ran
-          (is_taken world sent rest kept all.urgent (as_many world at.reached) up first).in_place)),
-    )
+pub protect-logged : (stops : Bool) (one : Counterparts) (key : ℕ) (on : Descriptor) (addr len bits : ℕ) (space : Space) → on.object ≡ one.name → IsQuiet one.kernel → writeprotect_error one.space addr len bits ≡ None →
+    Takes (protects_pages one key addr len bits) space one.name → IsLogged stops one (lines_of_calls key (answered (call.WriteProtect on addr len bits) Done ∷ [])) space
+unfolding on_object
+protect-logged stops one key on addr len bits space own quiet error it =
+    logged-rule stops one key on (answered (call.WriteProtect on addr len bits) Done) (protects_pages one key addr len bits) space own refl refl refl refl (λ after. protected-keeps one key addr len bits after error) quiet it
 
-urgently-delivered : (world : World) (n : ℕ) → (next world (Step.DeliverUrgent n)).destination.guest ≡ world.destination.guest
-urgently-delivered world n =
-    made-next (λ new. new.destination.guest ≡ world.destination.guest) world (Step.DeliverUrgent n) refl
-    ((λ sent rest first short. refl), (λ sent rest first full ran up. urgent-guest world.destination sent.frame))
+-- Every list of steps of a node
 
--- Commands
+-- a test of worlds holds of each world on the way
+abbrev pub AreAll : (World → Type 0) → World → List Step → Type 0
+AreAll holds world [] = holds world
+AreAll holds world (step ∷ steps) = holds world × AreAll holds (next world step) steps
 
-retried-access : (ran : Bool) (world : World) (cpu : ℕ) (command : Command) → IsReached world → ran ≡ true → outstanding (processor_at (guest_by ran world.source.guest world.destination.guest).cpus cpu) ≡ Some command → is_access command ≡ true
-retried-access true world cpu command reached ran waits = (are_accesses world reached).destination cpu command waits
-retried-access false world cpu command reached ran waits = absurd (false≢true ran)
+first-of : (holds : World → Type 0) (world : World) (steps : List Step) → AreAll holds world steps → holds world
+first-of holds world [] all = all
+first-of holds world (step ∷ steps) all = all.0
 
-command-logged : (at : Running) (cpu : ℕ) (command : Command) → is_access command ≡ true →
-    IsLogged at.one [] (with_guest_by at.world.destination.has_run at.world (tried (is_access command) (guest_of at.world) cpu command)).destination.guest.space
-command-logged at cpu command access =
-    let world = at.world in
-    let one = at.one in
-    subst (IsLogged one []) (sym (command-space world.destination.has_run world cpu command at.ran access)) (accessed-logged at cpu command access)
-
--- Every step
-
-unchanged : (world : World) (step : Step) (one : Counterparts) → one.space ≡ world.destination.guest.space → IsQuiet one.kernel → (next world step).destination ≡ world.destination → IsLogged one [] (next world step).destination.guest.space
-unchanged world step one same quiet is = stays one (next world step).destination.guest.space (same ∙ ap (λ (node : Destination). node.guest.space) (sym is)) quiet
-
-step-logged : (at : Running) (key : ℕ) (step : Step) → IsNoMapCall step →
-    IsLogged at.one (lines_of_call key (call_of at.on at.from at.world step (outcome at.world step))) (next at.world step).destination.guest.space
-step-logged at key (Step.Issue cpu command) access =
-    made-next (λ new. IsLogged at.one [] new.destination.guest.space) at.world (Step.Issue cpu command) (stays at.one at.world.destination.guest.space at.same at.quiet)
-    (λ there idle runs. command-logged at cpu command access)
-step-logged at key (Step.Retry cpu) access =
-    made-next (λ new. IsLogged at.one [] new.destination.guest.space) at.world (Step.Retry cpu) (stays at.one at.world.destination.guest.space at.same at.quiet)
-    (λ command waits woken runs. command-logged at cpu command (retried-access at.world.destination.has_run at.world cpu command at.reached at.ran waits))
-step-logged at key (Step.Deliver n) access = stays at.one _ (at.same ∙ ap (λ (guest : Guest). guest.space) (sym (delivered-guest at n))) at.quiet
-step-logged at key (Step.DeliverUrgent n) access = stays at.one _ (at.same ∙ ap (λ (guest : Guest). guest.space) (sym (urgently-delivered at.world n))) at.quiet
-step-logged at key Step.DestRead access =
-    by-result at.world Step.DestRead at.one (λ effect. read_call at.on (next_message at.world.destination.guest.space.object)) key (outcome at.world Step.DestRead) at.same at.quiet refl (λ effect is. read-logged at key effect is)
-step-logged at key Step.DestAct access =
-    by-result at.world Step.DestAct at.one (act_call at.on) key (outcome at.world Step.DestAct) at.same at.quiet refl (λ effect is. act-logged at key effect is)
-step-logged at key Step.Install access =
-    by-result at.world Step.Install at.one (install_call at.on at.from) key (outcome at.world Step.Install) at.same at.quiet refl (λ effect is. install-logged at key effect is)
-step-logged at key (Step.Notice Side.Source) access =
-    stays at.one _ (at.same ∙ sym (ap (λ (w : World). w.destination.guest.space) (changes_parts at.world (Step.Notice Side.Source)).is)) at.quiet
-step-logged at key (Step.Notice Side.Destination) access =
-    stays at.one _ (at.same ∙ sym (ap (λ (w : World). w.destination.guest.space) (changes_parts at.world (Step.Notice Side.Destination)).is)) at.quiet
-step-logged at key Step.Start access = unchanged at.world Step.Start at.one at.same at.quiet (changes_parts at.world Step.Start).destination
-step-logged at key Step.Round access = unchanged at.world Step.Round at.one at.same at.quiet (changes_parts at.world Step.Round).destination
-step-logged at key Step.Send access = unchanged at.world Step.Send at.one at.same at.quiet (changes_parts at.world Step.Send).destination
-step-logged at key (Step.SendRun count) access = unchanged at.world (Step.SendRun count) at.one at.same at.quiet (changes_parts at.world (Step.SendRun count)).destination
-step-logged at key Step.SourceRead access = unchanged at.world Step.SourceRead at.one at.same at.quiet (changes_parts at.world Step.SourceRead).destination
-step-logged at key Step.SourceAct access = unchanged at.world Step.SourceAct at.one at.same at.quiet (changes_parts at.world Step.SourceAct).destination
-step-logged at key Step.Switch access = unchanged at.world Step.Switch at.one at.same at.quiet (changes_parts at.world Step.Switch).destination
-step-logged at key (Step.DeliverBack n) access = unchanged at.world (Step.DeliverBack n) at.one at.same at.quiet (changes_parts at.world (Step.DeliverBack n)).destination
-step-logged at key (Step.Push ticket) access = unchanged at.world (Step.Push ticket) at.one at.same at.quiet (changes_parts at.world (Step.Push ticket)).destination
-step-logged at key (Step.PushUrgent ticket) access = unchanged at.world (Step.PushUrgent ticket) at.one at.same at.quiet (changes_parts at.world (Step.PushUrgent ticket)).destination
-step-logged at key Step.Serve access = unchanged at.world Step.Serve at.one at.same at.quiet (changes_parts at.world Step.Serve).destination
-step-logged at key Step.End access = unchanged at.world Step.End at.one at.same at.quiet (changes_parts at.world Step.End).destination
-step-logged at key Step.Break access = unchanged at.world Step.Break at.one at.same at.quiet (changes_parts at.world Step.Break).destination
-step-logged at key Step.Resume access = unchanged at.world Step.Resume at.one at.same at.quiet (changes_parts at.world Step.Resume).destination
-
--- Every list of steps
-
-took-run : (node : Destination) (epoch : ℕ) (frame : Frame) → node.has_run ≡ true → (destination_took node epoch frame).has_run ≡ true
-took-run node epoch frame ran = grind (arith, nat_tests)
-
-urgent-run : (node : Destination) (frame : Frame) → (urgent_took node frame).has_run ≡ node.has_run
-urgent-run node frame = grind (arith, nat_tests)
-
-acted-run : (act : Act) (node : Destination) (page : ℕ) → (destination_acted_by act node page).has_run ≡ node.has_run
-acted-run act node page = grind (arith, nat_tests)
-
-installed-run : (home : Option ℕ) (node : Destination) (copy : Copy) (rest : List Copy) → (install_by home node copy rest).has_run ≡ node.has_run
-installed-run home node copy rest = grind (arith, nat_tests)
-
-runs-on : (world : World) (step : Step) → world.destination.has_run ≡ true → (next world step).destination.has_run ≡ true
-runs-on world (Step.Issue cpu command) ran = ap (λ (node : Destination). node.has_run) (changes_parts world (Step.Issue cpu command)).destination_guest ∙ ran
-runs-on world (Step.Retry cpu) ran = ap (λ (node : Destination). node.has_run) (changes_parts world (Step.Retry cpu)).destination_guest ∙ ran
-runs-on world (Step.Deliver n) ran =
-    made-next (λ new. new.destination.has_run ≡ true) world (Step.Deliver n) ran ((λ sent rest first short. ran), (λ sent rest first full started up free early. took-run world.destination sent.epoch sent.frame ran))
-runs-on world (Step.DeliverUrgent n) ran =
-    made-next (λ new. new.destination.has_run ≡ true) world (Step.DeliverUrgent n) ran ((λ sent rest first short. ran), (λ sent rest first full runs up. urgent-run world.destination sent.frame ∙ ran))
-runs-on world Step.DestRead ran = made-next (λ new. new.destination.has_run ≡ true) world Step.DestRead ran (λ noted first runs. ran)
-runs-on world Step.DestAct ran = made-next (λ new. new.destination.has_run ≡ true) world Step.DestAct ran (λ fault rest first runs quiet. acted-run _ world.destination fault.page ∙ ran)
-runs-on world Step.Install ran = made-next (λ new. new.destination.has_run ≡ true) world Step.Install ran (λ copy rest first runs quiet. installed-run _ world.destination copy rest ∙ ran)
-runs-on world (Step.Notice Side.Source) ran = ap (λ (w : World). w.destination.has_run) (changes_parts world (Step.Notice Side.Source)).is ∙ ran
-runs-on world (Step.Notice Side.Destination) ran = ap (λ (w : World). w.destination.has_run) (changes_parts world (Step.Notice Side.Destination)).is ∙ ran
-runs-on world Step.Start ran = ap (λ (node : Destination). node.has_run) (changes_parts world Step.Start).destination ∙ ran
-runs-on world Step.Round ran = ap (λ (node : Destination). node.has_run) (changes_parts world Step.Round).destination ∙ ran
-runs-on world Step.Send ran = ap (λ (node : Destination). node.has_run) (changes_parts world Step.Send).destination ∙ ran
-runs-on world (Step.SendRun count) ran = ap (λ (node : Destination). node.has_run) (changes_parts world (Step.SendRun count)).destination ∙ ran
-runs-on world Step.SourceRead ran = ap (λ (node : Destination). node.has_run) (changes_parts world Step.SourceRead).destination ∙ ran
-runs-on world Step.SourceAct ran = ap (λ (node : Destination). node.has_run) (changes_parts world Step.SourceAct).destination ∙ ran
-runs-on world Step.Switch ran = ap (λ (node : Destination). node.has_run) (changes_parts world Step.Switch).destination ∙ ran
-runs-on world (Step.DeliverBack n) ran = ap (λ (node : Destination). node.has_run) (changes_parts world (Step.DeliverBack n)).destination ∙ ran
-runs-on world (Step.Push ticket) ran = ap (λ (node : Destination). node.has_run) (changes_parts world (Step.Push ticket)).destination ∙ ran
-runs-on world (Step.PushUrgent ticket) ran = ap (λ (node : Destination). node.has_run) (changes_parts world (Step.PushUrgent ticket)).destination ∙ ran
-runs-on world Step.Serve ran = ap (λ (node : Destination). node.has_run) (changes_parts world Step.Serve).destination ∙ ran
-runs-on world Step.End ran = ap (λ (node : Destination). node.has_run) (changes_parts world Step.End).destination ∙ ran
-runs-on world Step.Break ran = ap (λ (node : Destination). node.has_run) (changes_parts world Step.Break).destination ∙ ran
-runs-on world Step.Resume ran = ap (λ (node : Destination). node.has_run) (changes_parts world Step.Resume).destination ∙ ran
-
-pub steps-logged : (at : Running) (key : ℕ) (steps : List Step) → HaveNoMapCalls steps → IsLogged at.one (log_of at.on at.from key at.world steps) (space_after at.world steps)
-steps-logged at key [] none = stays at.one at.world.destination.guest.space at.same at.quiet
-steps-logged at key (step ∷ steps) none =
-    let world = at.world in
-    let first = step-logged at key step none.0 in
+pub every-logged : (node : Node) (name : ℕ) (holds : World → Type 0) →
+    ((world : World) (one : Counterparts) (key : ℕ) (step : Step) → holds world → holds (next world step) → IsNoMapCall step → one.space ≡ node.space world → IsQuiet one.kernel → name ≡ one.name → IsLogged node.stops one (lines_of_calls key (node.calls world step)) (node.space (next world step))) →
+    (world : World) (one : Counterparts) (key : ℕ) (steps : List Step) → AreAll holds world steps → HaveNoMapCalls steps → one.space ≡ node.space world → IsQuiet one.kernel → name ≡ one.name → IsLogged node.stops one (log_of node key world steps) (space_after node world steps)
+every-logged node name holds logs world one key [] all none same quiet own = stays node.stops one (node.space world) same quiet
+every-logged node name holds logs world one key (step ∷ steps) all none same quiet own =
     let new = next world step in
-    let after : Running =
-    record {
-      world = new;
-      reached = reached-next world step at.reached;
-      ran = runs-on world step at.ran;
-      one = first.last;
-      same = first.leaves;
-      quiet = first.quiet;
-      on = at.on;
-      own = at.own ∙ sym first.name;
-      from = at.from;
-      source = at.source;
-    } in
-    then-logged at.one (lines_of_call key (call_of at.on at.from world step (outcome world step))) (log_of at.on at.from (key + 1) new steps) new.destination.guest.space (space_after new steps) first (steps-logged after (key + 1) steps none.1)
+    let first = logs world one key step all.0 (first-of holds new steps all.1) none.0 same quiet own in
+    let number = key + length (node.calls world step) in
+    then-logged node.stops one (lines_of_calls key (node.calls world step)) (log_of node number new steps) (node.space new) (space_after node new steps) first
+    (every-logged node name holds logs new first.last number steps all.1 none.1 first.leaves first.quiet (own ∙ sym first.name))

@@ -133,6 +133,15 @@ some-protected space kernel name object first count agree every some =
     or_true : (a b : Bool) → b ≡ true → (a || b) ≡ true
     or_true a b h = grind (arith, nat_tests)
 
+pub each-protected : (space : Space) (kernel : Kernel) (name : ℕ) (object : Object) (first count : ℕ) → Agree space kernel name object → is_every (λ page. contains space.object.protect page) first count ≡ true → each_page kernel object.space first count (λ page. page.protect) ≡ true
+each-protected space kernel name object first count agree every =
+    none_below-from (λ i. not (page_is (λ page. page.protect) (kernel.pages object.space (first + i)))) count (λ i low.
+    let watched = every_page (λ page. contains space.object.protect page) first count (first + i) every (omega (arith)) (omega (arith, low)) in
+    ap not (known space name (first + i) (kernel.pages object.space (first + i)) (λ page. page.protect) (agree.pages (first + i)) (or_true (contains space.object.missing (first + i)) (contains space.object.protect (first + i)) watched) (λ one is. is.protect ∙ watched)))
+  where
+    or_true : (a b : Bool) → b ≡ true → (a || b) ≡ true
+    or_true a b h = grind (arith, nat_tests)
+
 allowed_now : (right begun changing some : Bool) → right ≡ true → changing ≡ false → some ≡ true → (right && (begun || not changing && some)) ≡ true
 allowed_now right begun changing some hr hc hs = grind (arith, nat_tests)
 

@@ -1,7 +1,7 @@
-//! The rules of a kernel allow what the object of the model answers: each ioctl and each read(2), and the log of a destination's calls. What
-//! is known of the kernel's object afterwards agrees with the model's. The other way round nothing is said: a kernel may also answer
-//! otherwise. `specs/Agreement.antt` says what agrees, `Reading.antt` how messages are read and threads wait, `Handlers.antt` what the nodes'
-//! handlers call, and `Logs.antt` what the log of a destination is.
+//! The rules of a kernel allow what the object of the model answers: each ioctl and each read(2), and the logs of both nodes' calls. What is
+//! known of the kernel's object afterwards agrees with the model's. The other way round nothing is said: a kernel may also answer otherwise.
+//! `specs/Agreement.antt` says what agrees, `Reading.antt` how messages are read and threads wait, `Handlers.antt` what the nodes' handlers
+//! call, and `Logs.antt` what the log of a node is.
 //!
 //! Each law is a function with an empty body, whose contract is the law.
 #![tactic(auto)]
@@ -20,7 +20,7 @@ ghost use Rattle.kernel_rules.specs.Ioctls as rules;
 ghost use Rattle.kernel_rules.specs.State.{may_be_outside};
 ghost use Rattle.kernel_laws.specs.Agreement.{AreMapped, AreUnmapsAndRemaps, Counterparts, Takes, answer_of_api, answer_of_put, answer_of_register, answer_of_wake, is_inside};
 ghost use Rattle.kernel_laws.specs.Handlers.{DestinationStep, SourceStep, copies_page, destination_after, protects_pages, source_after, wakes_page, zeroes_page};
-ghost use Rattle.kernel_laws.specs.Logs.{Arrival, HasRun, HaveNoMapCalls, IsLogged, Running, arrived, log_of, space_after, whole_log};
+ghost use Rattle.kernel_laws.specs.Logs.{AreLogged, Arrival, Beginning, HasRun, HaveNoMapCalls, IsUnreleased, Running, Watching, arrived, destination, source, source_log, space_after, whole_log};
 ghost use Rattle.kernel_laws.specs.Reading.{EventNext, FaultNext, NoneNext, Trying, fails_to_read, makes, reads_event, reads_fault};
 
 /// A kernel may answer each ioctl as the model does, whether it is refused, or done in part or whole. The range ends in the model's address
@@ -136,9 +136,22 @@ pub fn a_kernel_follows_the_source()
 /// has taken the Package, opens its object and registers the mapped pages, is one that a kernel may have written.
 pub fn a_destination_is_logged()
     ensures steps { (at : Running) (key : ℕ) (steps : List Step) → HaveNoMapCalls steps →
-        IsLogged at.one (log_of at.on at.from key at.world steps) (space_after at.world steps) }
+        AreLogged (destination at.on at.from) at.one key at.world steps }
     ensures whole { (it : Arrival) (steps : List Step) → HaveNoMapCalls steps →
-        HasRun (whole_log it steps) (space_after (arrived it) steps) }
+        HasRun false (whole_log it steps)
+        (space_after (destination it.on it.from) (arrived it) steps) }
+{}
+
+/// So is a source, until its memory is released. Start and Round register every mapped page in both modes, and a page is protected before it
+/// is sent. Its log has no thread numbers: the model's unread fault stays when its processor is woken, and that one may sleep at another page
+/// by then, where a thread of a kernel has one fault at a time. A fault may be read once its page is there, or is no longer protected; and
+/// Switch stops each processor, so that a thread which is on its way leaves its fault. These are the run's only differences from the model.
+pub fn a_source_is_logged()
+    ensures steps { (at : Watching) (key : ℕ) (steps : List Step) → HaveNoMapCalls steps →
+        IsUnreleased at.world steps → AreLogged (source at.by) at.one key at.world steps }
+    ensures whole { (it : Beginning) (steps : List Step) → HaveNoMapCalls steps →
+        IsUnreleased it.world steps → HasRun true (source_log it steps)
+        (space_after (source it.by) it.world steps) }
 {}
 
 /// There is such an object of a kernel for every sound space of the model whose unread messages are UNMAP and REMAP, if any. That a log leads

@@ -1,5 +1,5 @@
 use Rattle.kernel_laws.proofs.FirstCalls.{has-log}
-use Rattle.kernel_laws.proofs.LogRuns.{steps-logged}
+use Rattle.kernel_laws.proofs.DestinationRuns.{steps-logged}
 use Rattle.kernel_laws.proofs.a_destination_is_logged.Goals as goal
 
 pub returns-clause-steps : goal.returns-clause-steps
