@@ -1,4 +1,4 @@
-/* The calls of a userfaultfd, each checked, and what a handler does after the answers that are no errors of its own. */
+/* The calls of a userfaultfd, each checked, and what a handler does after answers that are not errors of its own. */
 #ifndef OBJECT_H
 #define OBJECT_H
 
@@ -17,7 +17,7 @@ void object_close(int object);
 void object_register(int object, const void *start, size_t length, uint64_t mode);
 void object_unregister(int object, const void *start, size_t length);
 void object_wake(int object, uint64_t start, size_t length);
-/* Takes the protection away, which wakes; or protects. False where an event has to be read first. */
+/* Takes the protection away, which wakes; or protects. False where an event must be read first. */
 bool object_unprotect(int object, uint64_t start, size_t length);
 void object_protect(int object, const void *start, size_t length);
 
@@ -25,7 +25,7 @@ void object_protect(int object, const void *start, size_t length);
 enum put {
     PUT,   /* by this call */
     THERE, /* by another one: what waits there has been woken */
-    AGAIN, /* an event has to be read first, and then the call is to be made again */
+    AGAIN, /* an event must be read first, and then the call made again */
     GONE   /* the range or its process has gone */
 };
 enum put put_copy(int object, uint64_t page, const void *from);

@@ -5,7 +5,7 @@
  *     threads touches         that touch them
  *     handlers window         threads that serve, and pages that they put at once
  *     wrong=twice             the window does not wake, and EEXIST is ignored
- *     wrong=unregister        the first area is given up while a thread sleeps there
+ *     wrong=unregister        the first area is unregistered while a thread sleeps there
  */
 #include <errno.h>
 #include <poll.h>

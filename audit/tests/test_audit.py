@@ -79,7 +79,8 @@ class Stored(unittest.TestCase):
             *cases, summary = map(json.loads, said_of(log, "--json", "--trace-events", str(file)).stdout.splitlines())
             events = json.loads(file.read_text())
         waits = [it for it in events if it["ph"] == "X"]
-        self.assertEqual((len(waits), round(1000 * max(it["dur"] for it in waits))), (summary["waits"], summary["longest"]))
+        longest = round(1000 * max(it["dur"] for it in waits))
+        self.assertEqual((len(waits), longest), (summary["waits"], summary["longest"]))
         named = collections.Counter(it["name"] for it in events if it["cat"] == "finding")
         self.assertEqual(named, collections.Counter(it["rule"] for it in cases))
 

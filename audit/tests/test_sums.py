@@ -13,7 +13,10 @@ PAGE = 4096
 MASK = (1 << 64) - 1
 FACTOR = 0x9e3779b97f4a7c15
 PROGRAMS = common.OUT / "programs"
-HEAD = "uffdlog 1\nrecorder preload 1\nkernel Linux 6.18.44 x86_64\npage 4096\nclock thread\ncommand -\n1 70 70 found 8:4\n"
+HEAD = (
+    "uffdlog 1\nrecorder preload 1\nkernel Linux 6.18.44 x86_64\npage 4096\nclock thread\ncommand -\n"
+    "1 70 70 found 8:4\n"
+)
 
 
 def sum_of_words(word):
@@ -43,7 +46,7 @@ class Written(unittest.TestCase):
         return compared(self.log)
 
     def test_two_sums(self):
-        """Of two copies to a page the second is named if its bytes are others, whether or not it found the page there."""
+        """Of two copies to a page the second is named if its bytes are others, also where it found the page there."""
         first = ["71 begin 1 copy 8:4 0x10000 0x50000 0x1000 0x0", "71 end 1 ok 4096"]
         second = ["72 begin 2 copy 8:4 0x10000 0x60000 0x1000 0x0"]
         for answer in ("ok 4096", "EEXIST -17"):
@@ -65,7 +68,8 @@ class Written(unittest.TestCase):
 
     def test_no_sum(self):
         """A copy that has no sum is counted, and a file that is none has a status of its own."""
-        status, said = self.compare(["71 begin 1 copy 8:4 0x10000 0x50000 0x2000 0x0", "71 end 1 ok 8192"], ["71 1 0x10000 0x5"])
+        lines = ["71 begin 1 copy 8:4 0x10000 0x50000 0x2000 0x0", "71 end 1 ok 8192"]
+        status, said = self.compare(lines, ["71 1 0x10000 0x5"])
         self.assertEqual((status, "1 copies without all of their sums" in said), (2, True), said)
         self.assertEqual(self.compare([], ["a b"])[0], 2)
 
@@ -84,7 +88,8 @@ class Recorded(test_record.Kernel):
 
     def made(self, *options):
         """Records a microVM and writes the sums of its snapshot. Returns the status of the comparison and its text."""
-        done = self.record("--sums", PROGRAMS / "firecracker", "pages=64", "threads=2", "touches=200", "seconds=50", *options)
+        words = ["pages=64", "threads=2", "touches=200", "seconds=50", *options]
+        done = self.record("--sums", PROGRAMS / "firecracker", *words)
         self.assertEqual(done.returncode, 0, done.stderr)
         start = int(re.search(r"register \S+ (0x[0-9a-f]+)", Path(self.log).read_text())[1], 16)
         source = Path(f"{self.log}.source")

@@ -124,11 +124,12 @@ def after(memory, word, addr, value):
 
 
 def made_by_threads(operations):
-    """Of each operation the set of those that its thread made earlier, as bits. None where a thread made two at once."""
+    """Of each operation those that its thread made earlier, as bits. None where a thread made two at once."""
     made = [0] * len(operations)
     for one in range(len(operations)):
         for other in range(one):
-            (thread, begin, end), (its_thread, its_begin, its_end) = operations[one][:3], operations[other][:3]
+            thread, begin, end = operations[one][:3]
+            its_thread, its_begin, its_end = operations[other][:3]
             if thread != its_thread:
                 continue
             # Where all four ticks are one, the lines are as the thread made them.
@@ -142,8 +143,9 @@ def made_by_threads(operations):
 
 
 def has_order(operations, clock):
-    """Whether there is an order that agrees with the intervals and the threads, in which each reply is that of one memory: all of them are
-    tried. An operation took effect at its begin, at its end, or between them; a counter that gives a tick twice is wrong."""
+    """Whether there is an order that agrees with the intervals and the threads, in which each reply is that of one
+    memory: all of them are tried. An operation took effect at its begin, at its end, or between them; a counter that
+    gives a tick twice is wrong."""
     ticks = [tick for it in operations for tick in it[1:3]]
     if clock == "counter" and len(set(ticks)) < len(ticks):
         return False
