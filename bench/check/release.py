@@ -97,7 +97,8 @@ def packed(text):
 def library_parts():
     """The files of the library: those that were built in dist/, or those of the release if they are of these sources;
     else it is built."""
-    is_built = sources("postmig_c")[1]
+    # (a library of the release counts as proved, and need not be unpacked)
+    is_built = sources("postmig_c")[1] and all((DIST / name).is_file() for name in PARTS)
     if not is_built and LIBRARY.is_file() and is_of_these_sources("postmig_c"):
         with tarfile.open(LIBRARY) as tar:
             return {it.name: tar.extractfile(it).read() for it in tar}
