@@ -31,7 +31,7 @@ class Call:
 def calls_of(name):
     """The calls of a log."""
     calls, by_call = [], {}
-    for entry, _ in uffdlog.entries(name, lambda *wrong: None):
+    for entry in uffdlog.entries(name):
         if entry.kind == "begin":
             call = Call(entry.word, dict(entry.values), 10 * entry.line, entry.pid, entry.tid)
             by_call[id(entry.call)] = (call, entry.call)
@@ -40,5 +40,5 @@ def calls_of(name):
             call = by_call.pop(id(entry.call))[0]
             call.end, call.answer, call.values = 10 * entry.line, entry.word, dict(entry.values)
             call.messages = [(message.word, dict(message.values)) for message in entry.call.messages]
-            call.runs = [run.values for run in entry.call.runs if run.values] if hasattr(entry.call, "runs") else []
+            call.runs = [run.values for run in entry.call.runs]
     return calls

@@ -19,9 +19,9 @@ RUNS = 1 if common.QUICK else 5
 
 
 def entries(path):
-    """The entries of a log, and its wrong lines."""
-    wrong = []
-    return [entry for entry, _ in uffdlog.entries(path, lambda *it: wrong.append(it))], wrong
+    """The entries of a log, and what the audit says of wrong lines."""
+    said = common.audit(path)
+    return list(uffdlog.entries(path)), said.stdout.splitlines() if said.returncode == 2 else []
 
 
 def why_no_userfaultfd():

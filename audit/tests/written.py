@@ -1,6 +1,6 @@
 """Logs as text, whose calls were changed, as `planted` changes a stored log."""
 
-from uffdlog import CALLS, HEAD, MESSAGES, lines_of, open_log
+from uffdlog import CALLS, HEAD, LINES, MESSAGES, lines_of
 
 KEPT = ("started", "forked", "found", "dropped", "exit")
 
@@ -31,7 +31,7 @@ def lines_of_call(call, number):
     for kind, values in call.messages:
         yield (call.end, 1), f"{who} message {number} {kind}{words_of(MESSAGES[kind], values)}"
     for values in call.runs:
-        yield (call.end, 1), f"{who} have {number}{words_of(('START', 'LENGTH', 'BITS'), values)}"
+        yield (call.end, 1), f"{who} have {number}{words_of(LINES['have'], values)}"
     yield (call.end, 2), f"{who} end {number} {answer_of(call)}"
 
 
@@ -39,13 +39,12 @@ def text_of(name, calls):
     """The text of a log with the lines of a stored one that are not calls, and with these calls, whose lines are
     numbered by tens as `planted` does."""
     head, lines = [], []
-    with open_log(name) as file:
-        for number, data in enumerate(lines_of(file), 1):
-            words = data.decode().split()
-            if number <= len(HEAD):
-                head.append(data.decode().rstrip("\n"))
-            elif words[3:4] and words[3] in KEPT:
-                lines.append(((10 * number, 0), " ".join(words[1:])))
+    for number, text in enumerate(lines_of(name), 1):
+        words = text.split()
+        if number <= len(HEAD):
+            head.append(text)
+        elif words[3:4] and words[3] in KEPT:
+            lines.append(((10 * number, 0), " ".join(words[1:])))
     for number, call in enumerate(sorted(calls, key=lambda call: call.begin), 1):
         lines += lines_of_call(call, number)
     lines.sort(key=lambda line: line[0])
