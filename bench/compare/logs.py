@@ -6,12 +6,13 @@ python3 bench/compare/logs.py [SEEDS] [--first SEED] [--profile P ..] [--source]
 
 `postmig run --steps` says which host call each step is. Those of the destination are the log of a handler, with the
 model's answers: the object's first calls, and then one call at a time. It must be certified, whatever is found of
-the handler, which a script may end in its middle. The scripts are those of `postmig explore`, SEEDS of each profile
-(20), without map calls from `start` on: so far kernel_laws::a_destination_is_logged reaches. --source: logs of the
-source too, which names no thread, as a handler without UFFD_FEATURE_THREAD_ID (a processor of the model may have
-two faults unread, a thread of a kernel one). By kernel_laws::a_source_is_logged each has a run, but not all are
-certified: the search finds none for a fault of a protected page that is read after the protection went. The status
-is 3 where a log is not certified, and 6 where there was none.
+the handler, which a script may end in its middle, and differ from the model as kernel_laws says alone; how often it
+does is printed. The scripts are those of `postmig explore`, SEEDS of each profile (20), without map calls from `start`
+on: so far kernel_laws::a_destination_is_logged reaches. --source: logs of the source too, which names no thread, as a
+handler without UFFD_FEATURE_THREAD_ID (a processor of the model may have two faults unread, a thread of a kernel
+one). By kernel_laws::a_source_is_logged each has a run, but not all are certified: the search finds none for a fault
+of a protected page that is read after the protection went. The status is 3 where a log is not as it should be, and 6
+where there was none.
 """
 
 import argparse
@@ -38,6 +39,9 @@ OBJECT, BUFFER = "1:5", 0x7F0000000000
 MAP_CALL = re.compile(r"cpu \d+ (mmap|munmap|mremap|dontneed)\b")
 # The status of a log that has nothing to judge: no message was read, and no page was put.
 NOTHING = 6
+# How the run of a node's log may differ from the model.
+MAY_DIFFER = {"dest": {"fault-on-its-way"}, "source": {"fault-on-its-way", "left-by-a-signal"}}
+DIFFERENCE = re.compile(r"^otherwise than the model: ([a-z-]+) (\d+) ", re.M)
 
 
 class Log:
@@ -119,20 +123,23 @@ def without_maps(script):
 
 
 def judge(name, script, nodes, keep):
-    """How many calls were certified in the logs of a script, by node, and which logs were not."""
-    calls, wrong, logs = collections.Counter(), [], logs_of(script)
+    """How many calls were certified in the logs of a script, by node, and how often a run differs from the model; and
+    which logs were not certified, or differ otherwise."""
+    found, wrong, logs = collections.Counter(), [], logs_of(script)
     for node in filter(logs.get, nodes):
         log = logs[node]
-        ran = subprocess.run([POSTMIG, "audit", "--certified"], input=log, capture_output=True, text=True)
-        if "\ncertified" in f"\n{ran.stdout}":
-            calls[node] += log.count(" begin ")
+        ran = subprocess.run([POSTMIG, "audit", "--certified", "--explain"], input=log, capture_output=True, text=True)
+        differs = dict(DIFFERENCE.findall(ran.stdout))
+        if "\ncertified" in f"\n{ran.stdout}" and differs.keys() <= MAY_DIFFER[node]:
+            found[f"calls at {node}"] += log.count(" begin ")
+            found.update({name: int(count) for name, count in differs.items()})
         elif ran.returncode != NOTHING:
             said = " | ".join(ran.stdout.splitlines()[-4:])
-            wrong.append(f"{name}, {node}: status {ran.returncode}, {said} {ran.stderr.strip()}")
+            wrong.append(f"{name}, {node}: status {ran.returncode}, {differs}, {said} {ran.stderr.strip()}")
             if keep:
                 keep.mkdir(parents=True, exist_ok=True)
                 (keep / f"{name}-{node}.log").write_text(log)
-    return calls, wrong
+    return found, wrong
 
 
 def main():
@@ -150,14 +157,14 @@ def main():
             words = ["explore", "--profile", profile, "--seed", str(seed)]
             made = subprocess.run([POSTMIG, *words], capture_output=True, text=True, check=True)
             scripts[f"{profile}-{seed}"] = without_maps(made.stdout.splitlines())
-    calls, wrong = collections.Counter(), []
+    found, wrong = collections.Counter(), []
     with concurrent.futures.ThreadPoolExecutor(os.cpu_count()) as threads:
         for more, faults in threads.map(lambda one: judge(*one, nodes, arguments.keep), scripts.items()):
-            calls, wrong = calls + more, wrong + faults
+            found, wrong = found + more, wrong + faults
     print(*wrong, sep="\n", end="\n" * bool(wrong))
-    print(f"logs: {len(scripts)} scripts; certified calls: " + ", ".join(f"{calls[node]} at {node}" for node in nodes) +
-          f"; {len(wrong)} logs are not certified")
-    return 3 if wrong else 0 if calls else NOTHING
+    counts = ", ".join(f"{name} {count}" for name, count in sorted(found.items()))
+    print(f"logs: {len(scripts)} scripts; certified: {counts or 'nothing'}; {len(wrong)} logs are otherwise")
+    return 3 if wrong else 0 if found else NOTHING
 
 
 if __name__ == "__main__":

@@ -9,34 +9,45 @@ CHOICES, MREMAP, OBJECT, NODES = (
     "Choices of the model", "mremap", "The userfault object", "The two nodes of a migration"
 )
 SECTIONS = (CHOICES, MREMAP, OBJECT, NODES)
+# The rows of the object's section that have no name in a log.
+CLEARING = "When MADV_DONTNEED clears the pages"
 
 # Answered by a rule of the model alone.
 MODEL_ONLY = "model-only"
 
-# tag: (section, what is arranged)
+# tag: (section, what is arranged), and of the object's section its row: a name of kernel_rules' `Difference`, or the
+# first words of a paragraph
 LED = {
     MODEL_ONLY: (CHOICES, "the kernel is not asked: accesses of a wrong form, limits of the model's address space"),
     "place-requested": (CHOICES, "the kernel is asked for the least free place"),
     "page-of-zeros": (CHOICES, "the page of zeros that a load makes present where nobody watches is removed"),
     "areas": (CHOICES, "one area of the model that is several in the kernel is moved, cut or grown by pieces"),
-    "fault-of-each-thread": (OBJECT, "the message of a second thread for a page stays unread"),
+    "fault-of-each-thread": (
+        OBJECT, "the message of a second thread for a page stays unread", "fault-of-each-thread"
+    ),
     "fault-taken-away": (
-        OBJECT, "a message that the kernel took away as its thread was woken is read from the model's queue"
+        OBJECT, "a message that the kernel took away as its thread was woken is read from the model's queue",
+        "fault-taken-away",
     ),
-    "order-of-faults": (OBJECT, "messages of threads that slept before are read first"),
-    "faults-read-first": (OBJECT, "unread faults are read before an event"),
+    "order-of-faults": (OBJECT, "messages of threads that slept before are read first", "fault-taken-away"),
+    "faults-read-first": (OBJECT, "unread faults are read before an event", "fault-of-each-thread"),
     "messages-of-mremap": (
-        OBJECT, "REMAP is read at its place in the model's order, and UNMAP of the old place is left out"
+        OBJECT, "REMAP is read at its place in the model's order, and UNMAP of the old place is left out",
+        "messages-of-mremap",
     ),
-    "remove-of-each-area": (OBJECT, "the REMOVE messages of a dontneed are read as one"),
-    "read-early": (OBJECT, "the messages of two calls are read at once, and handed out in the model's order"),
-    "cleared-at-once": (OBJECT, "the messages of a dontneed are read at once, so that it clears in its step"),
-    "sleeps-again": (OBJECT, "a thread that faults again before its retry is taken out of the kernel"),
+    "remove-of-each-area": (OBJECT, "the REMOVE messages of a dontneed are read as one", "remove-of-each-area"),
+    "read-early": (
+        OBJECT, "the messages of two calls are read at once, and handed out in the model's order", "order-of-two-calls"
+    ),
+    "cleared-at-once": (OBJECT, "the messages of a dontneed are read at once, so that it clears in its step", CLEARING),
+    "sleeps-again": (
+        OBJECT, "a thread that faults again before its retry is taken out of the kernel", "left-by-a-signal"
+    ),
     "stopped-and-retried": (
         NODES, "a thread that sleeps on a page which reads otherwise now is taken out of the kernel"
     ),
     "stopped-at-switch": (NODES, "a thread that sleeps at the switch is taken out of the kernel"),
-    "cleared-late": (OBJECT, "with --late: a dontneed sleeps on its message, and clears once that was read"),
+    "cleared-late": (OBJECT, "with --late: a dontneed sleeps on its message, and clears once that was read", CLEARING),
 }
 
 
@@ -82,7 +93,9 @@ def is_known(tags, model, kernel):
 
 
 def kind(tags, model, kernel):
-    """same, not asked, led, known or unexpected."""
+    """same, not asked, led, known or unexpected. A difference that docs/LINUX.md does not have is unexpected."""
+    if any(tag not in LED and tag not in KNOWN for tag in tags):
+        return "unexpected"
     if model == kernel:
         return "same" if not tags else "not asked" if tags == [MODEL_ONLY] else "led"
     return "known" if is_known(tags, model, kernel) else "unexpected"
