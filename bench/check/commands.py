@@ -34,6 +34,7 @@ LEFT_OUT = {
     "conformance/": "they need userfaultfd(2); .ci/run has two of them",
     "library --build": "it proves the library, which takes minutes",
     "tar -x": "it compares what the line before it builds",
+    "cmp - crates/": "release.py compares the programs, and knows which kit built them",
     "rustc": "a machine of the gate may have none; bench/compare/embed.py runs it",
     "postmig prove": "it proves the program, which takes an hour",
     "crates/driver": "it proves and builds the driver",

@@ -7,10 +7,11 @@ python3 bench/check/release.py --write       makes it: of crates/postmig/out/pos
                                        if it is of these sources; so with the library, or it is built
 python3 bench/check/release.py --sources     whether it is of these sources, and unpacks to what its checksums say
 python3 bench/check/release.py --check       the same, and whether the proved builds are the programs of the release, byte by
-                                       byte; so with the library, if dist/ has one that was built here
+                                       byte; so with the library, if dist/ has one that was built here. Another kit than
+                                       that of the release may give other bytes, which is said
 
 release/ has the programs and the library, packed, the checksums of their sources (./postmig sources) and those of all
-files.
+files, and the line of `rt version` of the kit that built both programs.
 """
 
 import argparse
@@ -35,7 +36,7 @@ SOURCES = {
     "uffd_audit": FOLDER / "uffd-audit-sources",
     "postmig_c": FOLDER / "library-sources",
 }
-SUMS = FOLDER / "SHA256SUMS"
+SUMS, KIT = FOLDER / "SHA256SUMS", FOLDER / "kit"
 DIST = page.TOP / "dist"
 PARTS = ("libpostmig.a", "libpostmig.so", "postmig.h", "postmig_node.h")
 RENEW = "./dev release makes it anew, after rt ci or ./postmig prove"
@@ -67,6 +68,11 @@ def is_built(crate):
         and noted.is_file()
         and noted.read_text().split() == [checksum, hashlib.sha256(built.read_bytes()).hexdigest()]
     )
+
+
+def kit():
+    """The line that names the kit which is here."""
+    return subprocess.run(["rt", "version"], check=True, capture_output=True, text=True).stdout
 
 
 def is_of_these_sources(crate):
@@ -127,6 +133,8 @@ def write():
     SUMS.write_text(sums({**programs, **parts, **{file.name: content for file, content in files.items()}}))
     for crate, file in SOURCES.items():
         file.write_text(sources(crate)[0] + "\n")
+    if all(map(is_built, PROGRAMS.values())):
+        KIT.write_text(kit())
 
 
 def unpacked():
@@ -139,7 +147,7 @@ def unpacked():
 def look_at_sources():
     """The files of the release, once they are known to be of these sources and to have their checksums."""
     packages = [*map(packed_file, PROGRAMS), LIBRARY]
-    for file in (*SOURCES.values(), SUMS, *packages):
+    for file in (*SOURCES.values(), SUMS, KIT, *packages):
         if not file.is_file():
             sys.exit(f"release: there is no {file.name}: {RENEW}")
     for crate, file in SOURCES.items():
@@ -154,6 +162,17 @@ def look_at_sources():
     return files
 
 
+def compare(what, is_same):
+    """Says whether what was built is as in the release. A build by another kit may have other bytes."""
+    if is_same:
+        print(f"release: {what}, as built")
+    elif KIT.read_text() == kit():
+        sys.exit(f"release: the build of {what} has other bytes: {RENEW}")
+    else:
+        told, here = (it.split()[0] for it in (KIT.read_text(), kit()))
+        print(f"release: {what}: {told} built it, and {here}, which is here, gives other bytes")
+
+
 def check():
     files = look_at_sources()
     for name, crate in PROGRAMS.items():
@@ -161,13 +180,9 @@ def check():
             sys.exit(
                 f"release: there is no proved build of {name} to compare it with: rt ci or ./postmig prove makes one"
             )
-        if built_file(crate).read_bytes() != files[name]:
-            sys.exit(f"release: the proved build of {name} has other bytes: {RENEW}")
-        print(f"release: {name}, {len(files[name]):,} bytes, as built")
+        compare(f"{name}, {len(files[name]):,} bytes", built_file(crate).read_bytes() == files[name])
     if sources("postmig_c")[1]:
-        if different := [name for name in PARTS if (DIST / name).read_bytes() != files[name]]:
-            sys.exit(f"release: {', '.join(different)} of dist/ has other bytes: {RENEW}")
-        print("release: the library is that of dist/")
+        compare("the library of dist/", all((DIST / name).read_bytes() == files[name] for name in PARTS))
 
 
 def main():
