@@ -1,10 +1,11 @@
 """The calls of a log, for scripts: the language uffdlog 1 of docs/UFFDLOG.md.
 
-Each line is taken to be of the language, and a word that is not is a ValueError: `uffd-audit` says what is wrong with a
+Each line is taken to be of the language, and one that is not is a ValueError: `uffd-audit` says what is wrong with a
 log.
 """
 
 import gzip
+import zlib
 from dataclasses import dataclass, field
 from typing import NamedTuple, Optional
 from urllib.parse import unquote_to_bytes
@@ -49,6 +50,7 @@ CALLS = {
     "mremap": form("ADDRESS OLD NEW FLAGS TO", "ADDRESS"),
     "madvise": form("ADDRESS LENGTH ADVICE"),
     "fork": form("", "PID"),
+    "ioctl": form("O REQUEST"),  # one that the language does not have
 }
 MESSAGES = {
     "fault": ("ADDRESS", "FLAGS", "THREAD"),
@@ -143,8 +145,11 @@ def entry_of(line, words, calls):
 def lines_of(name):
     """The lines of a log, without their line feeds; one whose name ends in .gz is unpacked."""
     with gzip.open(name, "rt", encoding="ascii") if name.endswith(".gz") else open(name, encoding="ascii") as file:
-        for line in file:
-            yield line.rstrip("\n")
+        try:
+            for line in file:
+                yield line.rstrip("\n")
+        except (EOFError, zlib.error) as error:
+            raise ValueError(f"{name}: {error}") from error
 
 
 def entries(name):
@@ -154,5 +159,9 @@ def entries(name):
         if line == 1 and text != FIRST_LINE:
             raise ValueError(f"{name}: the first line is not '{FIRST_LINE}'")
         words = text.split()
-        if line > len(HEAD) and words[0] != "lost":
-            yield entry_of(line, words, calls)
+        if line > len(HEAD) and words[:1] != ["lost"]:
+            try:
+                entry = entry_of(line, words, calls)
+            except (KeyError, IndexError, ValueError) as error:
+                raise ValueError(f"{name}:{line}: not a line of the language") from error
+            yield entry

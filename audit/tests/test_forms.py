@@ -179,8 +179,10 @@ class Wrong(Forms):
             self.assertEqual(line, missing + 1)
         for line, other in (
             (1, b"recorder test x\n"), (2, b"kernel Linux\n"), (3, b"page 1000\n"), (4, b"clock none\n"),
+            (5, b"command\n"),
         ):
             self.is_wrong(b"".join(head[:line] + [other] + head[line + 1:]), line + 1)
+        self.is_wrong(b"".join(head[:3]), 3)
 
     def test_no_log(self):
         for data in (b"", b"\n", b"uffdlog 2\n", b"\x00" * 100, b"int main(void)\n"):
@@ -247,8 +249,14 @@ class Changed(Forms):
                 outcomes[kind, "wrong" if wrong else "right"] += 1
         # A reader that takes everything, or nothing, would be none.
         for kind in ("byte", "bit", "line twice", "lines swapped", "word"):
-            self.assertGreater(outcomes[kind, "wrong"], SEEDS / 8 / 4, outcomes)
+            self.assertGreater(outcomes[kind, "wrong"], SEEDS / 8 / 3, outcomes)
         self.assertGreater(sum(count for (_, what), count in outcomes.items() if what == "right"), 0)
+
+    def test_a_line_that_is_missing(self):
+        """Which lines of the example a reader does not miss: what no later line refers to."""
+        lines = common.example()
+        silent = [it for it in range(1, len(lines)) if not self.judged(b"".join(lines[:it] + lines[it + 1:]))[1]]
+        self.assertEqual({lines[it].split()[3] for it in silent}, {b"started", b"exit", b"end"})
 
 
 if __name__ == "__main__":

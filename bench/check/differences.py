@@ -35,18 +35,18 @@ TEXTS = {
     ),
     "fault-of-each-thread": (
         "One fault of a page and kind is unread, and names the first processor by its number plus 1; a kernel has "
-        "one of each thread that sleeps, which it names as gettid(2)."
+        "one of each sleeping thread, named as gettid(2)."
     ),
     "fault-taken-away": (
         "A fault stays queued when its processor is woken; a kernel removes that of a thread, and queues it again "
-        "at the end if the thread faults again."
+        "at the end if the thread faults again. So the model's handler sees more stale faults, `woke` and `forgot`."
     ),
     "fault-on-its-way": (
         "A processor finds its page missing and queues the fault in one step; in a kernel another call may install "
         "or unprotect the page in between, and the thread does not sleep."
     ),
     "left-by-a-signal": "A processor sleeps until it is woken; in a kernel a signal ends its wait too.",
-    "close": "An object is never closed; in a kernel its ranges end with it, and its sleepers run on.",
+    "close": "An object is never closed; in a kernel it may be, while pages are registered with it.",
     "remove-of-each-area": (
         "MADV_DONTNEED has one REMOVE, of its whole range; in a kernel each area has one, cut to it."
     ),
@@ -63,13 +63,13 @@ TEXTS = {
         "call has run on, usually a few tries later."
     ),
     "areas": (
-        "Contiguous pages of one protection are one area; in a kernel those that were faulted in separately and "
-        "joined later, or were moved, are two, and UFFDIO_COPY and ZEROPAGE over both are ENOENT."
+        "Contiguous pages of one protection are one area; in a kernel those faulted in separately and joined later, "
+        "or moved, are two, and UFFDIO_COPY and ZEROPAGE over both are ENOENT."
     ),
     "writeprotect-over-a-hole": (
         "UFFDIO_WRITEPROTECT over an unmapped page of a registered range is ENOENT; a kernel skips it. Refused at a "
         "later page it has changed nothing; a kernel has protected the pages before it, and calls of other threads "
-        "take effect in between."
+        "take effect in between *(seen in logs of the kernel's selftest)*."
     ),
 }
 NAMED = re.compile(r'Difference::(\w+),\s*"([a-z-]+)"')
