@@ -8,8 +8,8 @@ is drawn, and searches all orders of each that agree with its intervals and thre
 ticks again, and a few a wrong one. Then it does so with small ones of real threads (20), which history/process writes,
 most of them with a fault in the memory. The status is 1 where the program says ok and there is no order, or wrong and
 there is one; where it writes an order that postmig check does not accept; or where it is undecided although there is an
-order. What was undecided otherwise is counted, by its clock and whether a call overlaps an access. --keep has each
-history that differs.
+order, or a counter gave a tick twice. What was undecided otherwise is counted, by its clock and whether a call overlaps
+an access. --keep has each history that differs.
 """
 
 import argparse
@@ -142,12 +142,17 @@ def made_by_threads(operations):
     return made
 
 
+def is_given_twice(clock, operations):
+    """Whether a counter gave a tick twice."""
+    ticks = [tick for it in operations for tick in it[1:3]]
+    return clock == "counter" and len(set(ticks)) < len(ticks)
+
+
 def has_order(operations, clock):
     """Whether there is an order that agrees with the intervals and the threads, in which each reply is that of one
     memory: all of them are tried. An operation took effect at its begin, at its end, or between them; a counter that
     gives a tick twice is wrong."""
-    ticks = [tick for it in operations for tick in it[1:3]]
-    if clock == "counter" and len(set(ticks)) < len(ticks):
+    if is_given_twice(clock, operations):
         return False
     made = made_by_threads(operations)
     if made is None or any(end < begin for _, begin, end, *_ in operations):
@@ -220,8 +225,9 @@ def judge(program, clock, operations, folder):
         return status, f"{STATUSES[status]}, but the search {'finds an order' if right else 'finds none'}"
     if status == 0 and subprocess.run([program, "check", order], capture_output=True).returncode:
         return status, "postmig check does not accept the order"
-    if status == 5 and right:
-        return status, "undecided, but the search finds an order"
+    if status == 5 and (right or is_given_twice(clock, operations)):
+        why = "the search finds an order" if right else "the counter gave a tick twice"
+        return status, f"undecided, but {why}"
     return status, None
 
 

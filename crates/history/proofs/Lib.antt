@@ -3,4 +3,5 @@ pub mod Apart
 pub mod Readers
 pub mod Locations
 pub mod Sources
+pub mod Refuted
 pub mod TickLists

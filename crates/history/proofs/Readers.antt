@@ -6,7 +6,7 @@ use Rattle.std.proofs.lemmas.Bool.{cases_lt}
 use Rattle.std.proofs.lemmas.List.Sorted.{All-permutation}
 use Rattle.history.specs.declared.operation.Operation.{Operation}
 use Rattle.history.specs.Histories.{MayPrecede, Explains}
-use Rattle.history.specs.Contradictions.{found_at, left_at, keeps_whole, Before, CannotGive, IsLocation, IsOnly, IsReader, Sees, IsFork, LeftFirst, ComesFirst}
+use Rattle.history.specs.Contradictions.{found_at, left_at, keeps_whole, Before, CannotGive, IsLocation, IsOnly, IsReader, Sees, IsFork, LeftFirst}
 use Rattle.history.proofs.Locations.{IsPlace, place_of}
 use Rattle.history.proofs.Sources.{place_in, comes_first, Left, left_by}
 
@@ -110,6 +110,10 @@ fork history order place size source first second wrong explains =
 
 -- One value after the other
 
+-- in each order that explains a history one operation comes before another
+abbrev pub ComesFirst : List Operation → Operation → Operation → Type 0
+ComesFirst history first second = (order : List Operation) → Explains history order → (i j : ℕ) (d : Operation) → i < length order → j < length order → get_or order i d ≡ first → get_or order j d ≡ second → i < j
+
 pub read_first : (history : List Operation) (place size : ℕ) (source next : Operation) → IsLocation history place size → IsReader history place source next → ComesFirst history source next
 read_first history place size source next location reads order explains i j d in_i in_j is_i is_j =
     (read history order place size source next d i j explains (place_of place size location.aligned) (All-permutation (λ x. keeps_whole place size x.action ≡ true) history order explains.all location.whole) in_i in_j is_i is_j reads).before
@@ -149,12 +153,3 @@ never_first history order x there turned explains =
 pub without_source : (history : List Operation) (place value : ℕ) (reader : Operation) (between : Option Operation) → All (λ source. left_at place source.action ≡ Some (Some value) → IsOnly None source ⊎ CannotGive between reader source) history
     → All (λ source. left_at place source.action ≡ Some (Some value) → CannotGive between reader source) history
 without_source history place value reader between h k d l leaves = elim (h k d l leaves) [ inl none ↦ absurd none | inr cannot ↦ cannot ]
-
-pub one_more : (history : List Operation) (first last next : Operation) → Contains history last → (last ≡ first) ⊎ ComesFirst history first last → ComesFirst history last next → ComesFirst history first next
-one_more history first last next there came step = elim came [
-  | inl same ↦ subst (λ (x : Operation). ComesFirst history x next) same step
-  | inr before ↦ then_first history first last next there before step
-]
-
-pub and_back : (history : List Operation) (first last : Operation) → Contains history last → (last ≡ first) ⊎ ComesFirst history first last → ComesFirst history last first → ComesFirst history first first
-and_back history first last there came step = one_more history first last first there came step

@@ -6,7 +6,7 @@ use Rattle.std.specs.List.Sorted.{IsPermutation}
 use Rattle.std.proofs.lemmas.Bool.{cases_lt}
 use Rattle.std.proofs.lemmas.Bool.Decides.{eqb_tells}
 use Rattle.std.proofs.lemmas.List.{get_or_default}
-use Rattle.std.proofs.lemmas.List.Elements.{All-head, All-tail}
+use Rattle.std.proofs.lemmas.List.Elements.{All-head, All-tail, Contains-append_left, Contains-append_right}
 use Rattle.std.proofs.lemmas.List.Sorted.{All-permutation, Contains-permutation}
 use Rattle.mig_base.specs.declared.command.Entry.{Entry}
 use Rattle.mig_base.specs.Flat.{Memory, no_memory, after, IsRunFrom, memory_from}
@@ -14,8 +14,8 @@ use Rattle.history.specs.declared.operation.TheConstants.{NEVER}
 use Rattle.history.specs.declared.operation.Clock.{Clock}
 use Rattle.history.specs.declared.operation.Clock.TheVariants.{Counter, Time}
 use Rattle.history.specs.declared.operation.Operation.{Operation}
-use Rattle.history.specs.Histories.{entries, entries_of, IsMadeBefore, MayPrecede, Explains, ticks, ticks_of, GaveTicks}
-use Rattle.history.specs.Contradictions.{found_at, left_at, keeps_whole, Before, Disturbs, CannotGive, HasNoSource, IsBackward}
+use Rattle.history.specs.Histories.{entries, entries_of, MayPrecede, Explains, ticks, ticks_of, GaveTicks}
+use Rattle.history.specs.Contradictions.{found_at, left_at, keeps_whole, Before, Disturbs, CannotGive, HasNoSource, IsAt, IsBackward, Overlaps, ShareTick}
 use Rattle.history.proofs.Locations.{Shows, now_at, IsPlace, step_at, place_of}
 
 -- Runs in two parts
@@ -89,12 +89,12 @@ left_by place size order d at value is whole run inside found = elim (given plac
 -- The order and the intervals
 
 -- an operation of the history is at some index of the order
-pub record IsAt (order : List Operation) (d x : Operation) : Type 0 where
+pub record Placed (order : List Operation) (d x : Operation) : Type 0 where
   pub at : ℕ
   pub inside : at < length order
   pub is : get_or order at d ≡ x
 
-pub place_in : (history order : List Operation) (d x : Operation) → IsPermutation history order → Contains history x → IsAt order d x
+pub place_in : (history order : List Operation) (d x : Operation) → IsPermutation history order → Contains history x → Placed order d x
 place_in history order d x same there =
     let it = Contains-permutation history order x same there in
     record { at = it.0; inside = it.1; is = get_or_default order it.0 d x it.1 ∙ it.2 }
@@ -203,6 +203,36 @@ later_apart : (xs ys : List ℕ) → AllPairs (λ x y. x ≢ y) (xs ++ ys) → A
 later_apart [] ys h = h
 later_apart (x ∷ xs) ys h = later_apart xs ys (λ i j d l m. h (suc i) (suc j) d (omega arith) (omega arith))
 
+-- two operations that a counter has given one tick
+
+apart_parts : (xs ys : List ℕ) (tick : ℕ) → Contains xs tick → Contains ys tick → AllPairs (λ x y. x ≢ y) (xs ++ ys) → ⊥
+apart_parts [] ys tick one other h = absurd (omega (arith, one.1))
+apart_parts (x ∷ xs) ys tick (zero, inside, is) other h =
+    let more = Contains-append_right xs ys tick other in
+    h 0 (suc more.0) tick (omega arith) (omega (arith, more.1)) (is ∙ sym more.2)
+apart_parts (x ∷ xs) ys tick (suc k, inside, is) other h = apart_parts xs ys tick (k, omega arith, is) other (later_apart (x ∷ []) (xs ++ ys) h)
+
+tick_there : (history : List Operation) (i tick : ℕ) (x : Operation) → IsAt history i x → Contains (ticks_of x) tick → Contains (ticks history) tick
+tick_there [] i tick x at has = absurd (omega (arith, at.0))
+tick_there (y ∷ ys) zero tick x at has = Contains-append_left (ticks_of y) (ticks ys) tick (subst (λ (z : Operation). Contains (ticks_of z) tick) (sym at.1) has)
+tick_there (y ∷ ys) (suc i) tick x at has = Contains-append_right (ticks_of y) (ticks ys) tick (tick_there ys i tick x (omega (arith, at.0), at.1) has)
+
+shared_in_turn : (history : List Operation) (i j tick : ℕ) (x y : Operation) → i < j → IsAt history i x → IsAt history j y → Contains (ticks_of x) tick → Contains (ticks_of y) tick → AllPairs (λ a b. a ≢ b) (ticks history) → ⊥
+shared_in_turn [] i j tick x y less at_x at_y has_x has_y h = absurd (omega (arith, at_x.0))
+shared_in_turn (z ∷ zs) zero zero tick x y less at_x at_y has_x has_y h = absurd (omega arith)
+shared_in_turn (z ∷ zs) zero (suc j) tick x y less at_x at_y has_x has_y h =
+    apart_parts (ticks_of z) (ticks zs) tick (subst (λ (a : Operation). Contains (ticks_of a) tick) (sym at_x.1) has_x) (tick_there zs j tick y (omega (arith, at_y.0), at_y.1) has_y) h
+shared_in_turn (z ∷ zs) (suc i) zero tick x y less at_x at_y has_x has_y h = absurd (omega arith)
+shared_in_turn (z ∷ zs) (suc i) (suc j) tick x y less at_x at_y has_x has_y h =
+    shared_in_turn zs i j tick x y (omega arith) (omega (arith, at_x.0), at_x.1) (omega (arith, at_y.0), at_y.1) has_x has_y (later_apart (ticks_of z) (ticks zs) h)
+
+pub never_shared : (clock : Clock) (history : List Operation) (i j : ℕ) (x y : Operation) → i ≢ j → IsAt history i x → IsAt history j y → ShareTick clock x y → GaveTicks clock history → ⊥
+never_shared Counter history i j x y apart at_x at_y shared gave = elim (cases_lt i j) [
+  | inl less ↦ shared_in_turn history i j shared.0 x y less at_x at_y shared.1 shared.2 gave
+  | inr least ↦ shared_in_turn history j i shared.0 y x (omega (arith, least, apart)) at_y at_x shared.2 shared.1 gave
+]
+never_shared Time history i j x y apart at_x at_y shared gave = shared
+
 first_twice : (begin end : ℕ) (is_never : Bool) (rest : List ℕ) → is_never ≡ false → begin ≡ end → AllPairs (λ x y. x ≢ y) (begin ∷ (cond is_never [] (end ∷ []) ++ rest)) → ⊥
 first_twice begin end true rest e same h = cc
 first_twice begin end false rest e same h = h 0 1 0 (omega arith) (omega arith) same
@@ -223,24 +253,26 @@ never_backward Counter history order x there back gave explains =
     given_twice history x there.0 there.1 there.2 (omega (arith, timed, back.0)) back.1 gave
 never_backward Time history order x there back gave explains = let timed = timed_in history order x there explains in omega (arith, timed, back)
 
-pub never_overlap : (history order : List Operation) (x y : Operation) → Contains history x → Contains history y → x.thread ≡ y.thread → (x.line ≡ y.line → ⊥) → y.begin < x.end → x.begin < y.end → Explains history order → ⊥
-never_overlap history order x y x_there y_there same other one_way other_way explains =
+pub never_overlap : (history order : List Operation) (x y : Operation) → Contains history x → Contains history y → Overlaps x y → Explains history order → ⊥
+never_overlap history order x y x_there y_there wrong explains =
+    let first_open = wrong.first_open in
+    let second_open = wrong.second_open in
     let a = place_in history order x x explains.all x_there in
     let b = place_in history order x y explains.all y_there in
     elim (cases_lt a.at b.at) [
       | inl less ↦
           let may = explains.agrees a.at b.at x less b.inside in
           let after : MayPrecede x y = subst (λ (p : Operation). MayPrecede p y) a.is (subst (λ (q : Operation). MayPrecede (get_or order a.at x) q) b.is may) in
-          let ended = (after.one_thread same).ended in
-          absurd (omega (arith, ended))
+          let ended = (after.one_thread wrong.one_thread).ended in
+          absurd (omega (arith, ended, first_open))
       | inr least ↦ elim (cases_lt b.at a.at) [
         | inl less ↦
             let may = explains.agrees b.at a.at x less a.inside in
             let after : MayPrecede y x = subst (λ (p : Operation). MayPrecede p x) b.is (subst (λ (q : Operation). MayPrecede (get_or order b.at x) q) a.is may) in
-            let ended = (after.one_thread (sym same)).ended in
-            absurd (omega (arith, ended))
+            let ended = (after.one_thread (sym wrong.one_thread)).ended in
+            absurd (omega (arith, ended, second_open))
         | inr most ↦
             let one : a.at ≡ b.at = omega arith in
-            other (ap (λ (p : Operation). p.line) (sym a.is ∙ ap (λ n. get_or order n x) one ∙ b.is))
+            wrong.apart (ap (λ (p : Operation). p.line) (sym a.is ∙ ap (λ n. get_or order n x) one ∙ b.is))
       ]
     ]

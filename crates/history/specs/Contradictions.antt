@@ -1,5 +1,5 @@
 -- How operations contradict each other: what makes an order of all of them impossible. A location is an address with a width, in bytes.
-use Rattle.std.specs.Prelude.{◌≡◌, ◌≢◌, ℕ, ◌<◌, ◌≤◌, ◌⊎◌, ◌==◌, not, Bool, true, Option, Some, None, IfSome, List, length, slice_index_or, if◌then◌else◌}
+use Rattle.std.specs.Prelude.{◌≡◌, ◌≢◌, ℕ, ◌<◌, ◌≤◌, ◌⊎◌, ◌==◌, not, Bool, true, Option, Some, None, IfSome, List, [], ◌∷◌, length, slice_index_or, if◌then◌else◌}
 use Rattle.std.specs.List.{All, Contains}
 use Rattle.mig_base.specs.Ranges.{in_range, rounded}
 use Rattle.mig_base.specs.Flat.{is_aligned, overlaps}
@@ -9,7 +9,10 @@ use Rattle.history.specs.declared.operation.Clock.TheVariants.{Counter, Time}
 use Rattle.history.specs.declared.operation.Action.{Action}
 use Rattle.history.specs.declared.operation.Action.TheVariants.{Load, Store, Swap, Map, Unmap, Discard}
 use Rattle.history.specs.declared.operation.Operation.{Operation}
-use Rattle.history.specs.Histories.{Explains, IsMadeBefore}
+use Rattle.history.specs.declared.cycle.Value.{Value}
+use Rattle.history.specs.declared.contradiction.Contradiction.{Contradiction}
+use Rattle.history.specs.declared.contradiction.Contradiction.TheVariants.{NoSource, Fork, Cycle, Backward, OneTick, Overlap}
+use Rattle.history.specs.Histories.{IsMadeBefore, ticks_of}
 
 -- the value that an action found at an address, if it is one that reads there
 abbrev pub found_at : ℕ → Action → Option ℕ
@@ -80,9 +83,17 @@ abbrev pub IsBackward : Clock → Operation → Type 0
 IsBackward Counter operation = (operation.end ≤ operation.begin) × (operation.end ≢ NEVER)
 IsBackward Time operation = operation.end < operation.begin
 
+-- clock: a counter gave two operations one tick
+abbrev pub ShareTick : Clock → Operation → Operation → Type 0
+ShareTick Counter first second = (tick : ℕ) × Contains (ticks_of first) tick × Contains (ticks_of second) tick
+ShareTick Time first second = ⊥
+
 -- clock: two operations of one thread, of which neither had ended when the other began
-abbrev pub Overlap : Operation → Operation → Type 0
-Overlap first second = (first.thread ≡ second.thread) × (second.begin < first.end) × (first.begin < second.end)
+pub record Overlaps (first second : Operation) : Type 0 where
+  pub apart : first.line ≢ second.line
+  pub one_thread : first.thread ≡ second.thread
+  pub first_open : second.begin < first.end
+  pub second_open : first.begin < second.end
 
 -- the one operation that may have given a reader the value that it found, if there is one
 abbrev pub IsOnly : Option Operation → Operation → Type 0
@@ -124,6 +135,33 @@ pub record LeftFirst (history : List Operation) (place : ℕ) (source early next
   pub late_sees : Sees history place next late
   pub ended : Before early late
 
--- split: in each order that explains a history one operation comes before another. If one comes before itself, there is none
-abbrev pub ComesFirst : List Operation → Operation → Operation → Type 0
-ComesFirst history first second = (order : List Operation) → Explains history order → (i j : ℕ) (d : Operation) → i < length order → j < length order → slice_index_or order i d ≡ first → slice_index_or order j d ≡ second → i < j
+-- an index of a history is that of an operation
+abbrev pub IsAt : List Operation → ℕ → Operation → Type 0
+IsAt history index operation = (index < length history) × (slice_index_or history index operation ≡ operation)
+
+-- a value was at a location before the next one: the operation that left the next found it, or the intervals say so
+abbrev pub WasBefore : List Operation → ℕ → Value → Value → Type 0
+WasBefore history place value next =
+    (source early after late : Operation) × IsAt history value.source source × IsAt history value.early early × IsAt history next.source after × IsAt history next.late late × (IsReader history place source after ⊎ LeftFirst history place source early after late)
+
+-- from `last` on each value was there before the next, and the last before `first`
+abbrev pub IsRound : List Operation → ℕ → Value → Value → List Value → Type 0
+IsRound history place first last [] = WasBefore history place last first
+IsRound history place first last (next ∷ values) = WasBefore history place last next × IsRound history place first next values
+
+-- split: each of these values was there before the next, and the last before the first
+abbrev pub IsCycle : List Operation → ℕ → List Value → Type 0
+IsCycle history place [] = ⊥
+IsCycle history place (first ∷ values) = IsRound history place first first values
+
+-- what a contradiction says of a history is so
+abbrev pub Contradicts : Clock → List Operation → Contradiction → Type 0
+Contradicts clock history (NoSource reader None) = (it : Operation) × IsAt history reader it × (place size value : ℕ) × HasNoSource history place size value it None
+Contradicts clock history (NoSource reader (Some between)) =
+    (it middle : Operation) × IsAt history reader it × IsAt history between middle × (place size value : ℕ) × HasNoSource history place size value it (Some middle)
+Contradicts clock history (Fork source first second) =
+    (it one other : Operation) × IsAt history source it × IsAt history first one × IsAt history second other × (place size : ℕ) × IsFork history place size it one other
+Contradicts clock history (Cycle place size values) = IsLocation history place size × IsCycle history place values.items
+Contradicts clock history (Backward at) = (it : Operation) × IsAt history at it × IsBackward clock it
+Contradicts clock history (OneTick first second) = (first ≢ second) × (one other : Operation) × IsAt history first one × IsAt history second other × ShareTick clock one other
+Contradicts clock history (Overlap first second) = (one other : Operation) × IsAt history first one × IsAt history second other × Overlaps one other

@@ -1,11 +1,15 @@
 //! Values of a location that cannot have been there one after the other.
 
-ghost use Rattle.std.specs.Prelude.{◌≡◌, IfSome};
+ghost use Rattle.std.specs.Prelude.{IfSome};
 ghost use Rattle.std.specs.Bool.{OnTrue};
-ghost use Rattle.std.specs.List.{Contains};
-ghost use Rattle.history.specs.declared.operation.Clock.{Clock};
-ghost use Rattle.history.specs.Histories.{IsKept};
-ghost use Rattle.history.specs.Contradictions.{ComesFirst, IsLocation, LeftFirst};
+ghost use Rattle.history.specs.Contradictions.{
+  IsAt,
+  IsCycle,
+  IsLocation,
+  IsRound,
+  LeftFirst,
+  WasBefore,
+};
 
 use crate::before::is_before;
 use crate::operation::Operation;
@@ -33,9 +37,9 @@ struct Seen {
 
 /// The operations at the indices of a value, if there are such.
 fn look_up(operations: &[Operation], value: Value) -> Option<Seen>
-    ensures source { IfSome result (λ it. Contains operations.now it.source) }
-    ensures early { IfSome result (λ it. Contains operations.now it.early) }
-    ensures late { IfSome result (λ it. Contains operations.now it.late) }
+    ensures source { IfSome result (λ it. IsAt operations.now value.source it.source) }
+    ensures early { IfSome result (λ it. IsAt operations.now value.early it.early) }
+    ensures late { IfSome result (λ it. IsAt operations.now value.late it.late) }
 {
     if value.source >= operations.len() {
         return None;
@@ -68,51 +72,45 @@ fn left_first(operations: &[Operation], place: u64, value: Seen, next: Seen) -> 
 }
 
 /// Whether one value was there before another: the source of the other found it, or their intervals say so.
-fn comes_first(operations: &[Operation], place: u64, size: u8, value: Seen, next: Seen) -> bool
-    requires location { IsLocation operations.now place size }
-    requires early { Contains operations.now value.early }
-    requires late { Contains operations.now next.late }
-    ensures { OnTrue result (ComesFirst operations.now value.source next.source) }
+fn was_before(operations: &[Operation], place: u64, value: Value, next: Value) -> bool
+    ensures { OnTrue result (WasBefore operations.now place value next) }
 {
-    if is_reader(operations, place, value.source, next.source) {
+    let Some(seen) = look_up(operations, value) else {
+        return false;
+    };
+    let Some(next) = look_up(operations, next) else {
+        return false;
+    };
+    if is_reader(operations, place, seen.source, next.source) {
         return true;
     }
-    left_first(operations, place, value, next)
+    left_first(operations, place, seen, next)
 }
 
 /// Whether each value was there before the next, and the last before the first.
-fn is_round(operations: &[Operation], place: u64, size: u8, first: Seen, rest: &[Value]) -> bool
-    requires location { IsLocation operations.now place size }
-    requires source { Contains operations.now first.source }
-    requires early { Contains operations.now first.early }
-    requires late { Contains operations.now first.late }
-    ensures { OnTrue result (ComesFirst operations.now first.source first.source) }
+fn is_round(operations: &[Operation], place: u64, first: Value, rest: &[Value]) -> bool
+    ensures { OnTrue result (IsRound operations.now place first first rest.now) }
 {
     let mut last = first;
     for value in rest {
-        let Some(next) = look_up(operations, *value) else {
-            return false;
-        };
-        if !comes_first(operations, place, size, last, next) {
+        if !was_before(operations, place, last, *value) {
             return false;
         }
-        last = next;
+        last = *value;
     }
-    comes_first(operations, place, size, last, first)
+    was_before(operations, place, last, first)
 }
 
 /// Whether each of the values of a location was there before the next, and the last before the first.
 pub(crate) fn is_cycle(operations: &[Operation], place: u64, size: u8, values: &[Value]) -> bool
-    ensures { OnTrue result ((clock : Clock) → IsKept clock operations.now → ⊥) }
+    ensures location { OnTrue result (IsLocation operations.now place size) }
+    ensures values { OnTrue result (IsCycle operations.now place values.now) }
 {
     let [first, rest @ ..] = values else {
-        return false;
-    };
-    let Some(first) = look_up(operations, *first) else {
         return false;
     };
     if !is_location(operations, place, size) {
         return false;
     }
-    is_round(operations, place, size, first, rest)
+    is_round(operations, place, *first, rest)
 }

@@ -25,8 +25,10 @@ struct Account {
     others: [Option<usize>; 2],
 }
 
-/// What is said of an operation that did not end after it began, and of two that overlap.
+/// What is said of an operation that did not end after it began, of two that share a tick, and of two that overlap.
 const BACKWARD: &str = "it did not end after it began:";
+
+const ONE_TICK: &str = "the counter gave both one tick:";
 
 const OVERLAP: &str = "one thread made both, and neither had ended when the other began:";
 
@@ -135,21 +137,26 @@ fn account_of_read(
     }
 }
 
+/// What is said of an operation that a clock cannot have timed so, perhaps beside another.
+fn account_of_clock(at: usize, other: Option<usize>, why: &'static str) -> Account {
+    Account {
+        at,
+        kind: "clock",
+        why,
+        others: [other, None],
+    }
+}
+
 /// What is said of a contradiction.
 fn account_of(operations: &[Operation], contradiction: &Contradiction) -> Account {
     match contradiction {
-        Contradiction::Backward { at } => Account {
-            at: *at,
-            kind: "clock",
-            why: BACKWARD,
-            others: [None, None],
-        },
-        Contradiction::Overlap { first, second } => Account {
-            at: *second,
-            kind: "clock",
-            why: OVERLAP,
-            others: [Some(*first), None],
-        },
+        Contradiction::Backward { at } => account_of_clock(*at, None, BACKWARD),
+        Contradiction::OneTick { first, second } => {
+            account_of_clock(*second, Some(*first), ONE_TICK)
+        }
+        Contradiction::Overlap { first, second } => {
+            account_of_clock(*second, Some(*first), OVERLAP)
+        }
         Contradiction::Fork {
             source,
             first,

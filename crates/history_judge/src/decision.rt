@@ -1,12 +1,13 @@
 //! The decision on a history.
 
 ghost use Rattle.std.specs.Prelude.{IfOk};
-ghost use Rattle.std.specs.Bool.{OnTrue};
-ghost use Rattle.history_judge.specs.Decisions.{Decides, IsRefuted};
+ghost use Rattle.std.specs.List.{All};
+ghost use Rattle.history.specs.Contradictions.{Contradicts};
+ghost use Rattle.history_judge.specs.Decisions.{Decides};
 
-use history::{Clock, Contradiction, Operation, refutes};
+use history::{Clock, Contradiction, Operation, gave_ticks, refutes};
 use history_order::confirm_order;
-use history_search::{Doubt, Proposal, propose};
+use history_search::{Doubt, Proposal, propose, propose_shared};
 use mig_base::NoMemory;
 use std::alloc::Global;
 
@@ -32,41 +33,43 @@ fn is_named(list: &[Contradiction], contradiction: &Contradiction) -> bool {
     }
 }
 
-/// Whether a contradiction is there of which the list does not have a like. If so, it is added to the list.
-fn push_true(
-    list: &mut Vec<Contradiction>,
-    clock: Clock,
-    operations: &[Operation],
-    contradiction: Contradiction,
-) -> Result<bool, NoMemory>
-    ensures { IfOk result (λ there. OnTrue there (IsRefuted clock operations.now)) }
-{
-    if is_named(list, &contradiction) || !refutes(clock, operations, &contradiction) {
-        return Ok(false);
-    }
-    list.push(contradiction)?;
-    Ok(true)
-}
-
-/// Adds to the list the contradictions that are there. Whether there is one.
-fn push_all_true(
-    list: &mut Vec<Contradiction>,
+/// The contradictions that are there, but for those of which the one before says the like.
+fn keep_true(
+    alloc: Global,
     clock: Clock,
     operations: &[Operation],
     proposed: Vec<Contradiction>,
-) -> Result<bool, NoMemory>
-    ensures { IfOk result (λ there. OnTrue there (IsRefuted clock operations.now)) }
+) -> Result<Vec<Contradiction>, NoMemory>
+    ensures { IfOk result (λ kept. All (Contradicts clock operations.now) kept.items) }
 {
-    let mut is_wrong = false;
+    let mut kept = Vec::new(alloc);
     for contradiction in proposed {
-        let there = push_true(list, clock, operations, contradiction)?;
-        is_wrong = is_wrong || there;
+        if !is_named(&kept, &contradiction) && refutes(clock, operations, &contradiction) {
+            kept.push(contradiction)?;
+        }
     }
-    Ok(is_wrong)
+    Ok(kept)
 }
 
-/// Decides on a history: puts the operations into an order that explains it, or names contradictions in it. `NoMemory` comes if room is
-/// refused.
+/// The decision where contradictions were proposed, of which none may be there.
+fn decide_wrong(
+    alloc: Global,
+    clock: Clock,
+    operations: &[Operation],
+    proposed: Vec<Contradiction>,
+) -> Result<Decision, NoMemory>
+    ensures { IfOk result (λ decision.
+        Decides clock operations.now operations.now decision) }
+{
+    let kept = keep_true(alloc, clock, operations, proposed)?;
+    if kept.is_empty() {
+        return Ok(Decision::Undecided(None));
+    }
+    Ok(Decision::Wrong(kept))
+}
+
+/// Decides on a history: puts the operations into an order that explains it, or leaves them as they are and names contradictions in it.
+/// `NoMemory` comes if room is refused.
 pub fn decide(
     alloc: Global,
     clock: Clock,
@@ -74,25 +77,21 @@ pub fn decide(
 ) -> Result<Decision, NoMemory>
     ensures { IfOk result (λ decision. Decides clock operations.old operations.new decision) }
 {
+    if !gave_ticks(alloc, clock, operations)? {
+        let proposed = propose_shared(alloc, clock, operations)?;
+        return decide_wrong(alloc, clock, operations, proposed);
+    }
     match propose(alloc, clock, operations)? {
         Proposal::Order(order) => {
             let mut order = order;
-            let explains = confirm_order(alloc, clock, operations, &mut order)?;
+            let explains = confirm_order(alloc, operations, &mut order)?;
             if explains {
                 Ok(Decision::Kept)
             } else {
                 Ok(Decision::Undecided(None))
             }
         }
-        Proposal::Contradictions(proposed) => {
-            let mut list = Vec::new(alloc);
-            let is_wrong = push_all_true(&mut list, clock, operations, proposed)?;
-            if is_wrong {
-                Ok(Decision::Wrong(list))
-            } else {
-                Ok(Decision::Undecided(None))
-            }
-        }
+        Proposal::Contradictions(proposed) => decide_wrong(alloc, clock, operations, proposed),
         Proposal::Nothing(doubt) => Ok(Decision::Undecided(Some(doubt))),
     }
 }

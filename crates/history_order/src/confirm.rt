@@ -3,10 +3,10 @@
 ghost use Rattle.std.specs.Prelude.{IfOk};
 ghost use Rattle.std.specs.Bool.{OnTrue};
 ghost use Rattle.std.specs.List.Sorted.{IsPermutation};
-ghost use Rattle.history.specs.Histories.{Explains, GaveTicks};
+ghost use Rattle.history.specs.Histories.{Explains};
 
 use crate::replay::is_flat;
-use history::{Clock, Operation, agrees, gave_ticks};
+use history::{Operation, agrees};
 use mig_base::NoMemory;
 use std::alloc::Global;
 
@@ -41,23 +41,15 @@ fn arrange(operations: &mut [Operation], order: &mut [u32])
 }
 
 /// Puts the operations of a history into the order in which `order` lists their indices, and says whether that order explains the history:
-/// it has all operations, agrees with each interval and each thread, and in it each reply is that of one flat memory; and whether the
-/// clock gave its ticks as it should. If not, another order may explain it. The indices are replaced. `NoMemory` comes if room for the
-/// ticks or for the pages is refused.
+/// it has all operations, agrees with each interval and each thread, and in it each reply is that of one flat memory. If not, another order
+/// may explain it. The indices are replaced. `NoMemory` comes if room for the pages is refused.
 pub fn confirm_order(
     alloc: Global,
-    clock: Clock,
     operations: &mut [Operation],
     order: &mut [u32],
 ) -> Result<bool, NoMemory>
-    ensures order { IfOk result (λ explains.
-        OnTrue explains (Explains operations.old operations.new)) }
-    ensures ticks { IfOk result (λ explains. OnTrue explains (GaveTicks clock operations.old)) }
+    ensures { IfOk result (λ explains. OnTrue explains (Explains operations.old operations.new)) }
 {
-    let ticked = gave_ticks(alloc, clock, operations)?;
-    if !ticked {
-        return Ok(false);
-    }
     arrange(operations, order);
     if !agrees(operations) {
         return Ok(false);

@@ -2,7 +2,7 @@
 use Rattle.std.specs.Prelude.{ℕ, ◌<◌, IfSome, List, length}
 use Rattle.std.specs.List.{All}
 use Rattle.history.specs.declared.contradiction.Contradiction.{Contradiction}
-use Rattle.history.specs.declared.contradiction.Contradiction.TheVariants.{NoSource, Fork, Cycle, Backward, Overlap}
+use Rattle.history.specs.declared.contradiction.Contradiction.TheVariants.{NoSource, Fork, Cycle, Backward, OneTick, Overlap}
 use Rattle.history.specs.declared.cycle.Value.{Value}
 use Rattle.history.specs.declared.operation.Operation.{Operation}
 use Rattle.history_search.specs.declared.proposal.Proposal.{Proposal}
@@ -18,6 +18,7 @@ IsWithin count (NoSource reader between) = (reader < count) × IfSome between (�
 IsWithin count (Fork source first second) = (source < count) × (first < count) × (second < count)
 IsWithin count (Cycle place size values) = All (IsValueWithin count) values.items
 IsWithin count (Backward at) = at < count
+IsWithin count (OneTick first second) = (first < count) × (second < count)
 IsWithin count (Overlap first second) = (first < count) × (second < count)
 
 -- and so are those of a proposal

@@ -1,6 +1,7 @@
 //! Looking for an order of the operations of a history that explains it, or for contradictions.
 //!
-//! [`propose`] promises that what it proposes names operations that are there, and no more: it is checked by `history` and `history_order`.
+//! [`propose`] and [`propose_shared`] promise that what they propose names operations that are there, and no more: it is checked by `history`
+//! and `history_order`.
 //! Between two map calls on its page a location is a register. Where each value is stored there once, the operations that saw one value are
 //! together, and those that saw what an exchange put in its place follow them: these `chains` are put into an order by their zones (Gibbons
 //! and Korach, Testing shared memories, 1997). Where two of them cannot be, they are a contradiction (`late`, `cycles`). Where values are
@@ -22,5 +23,6 @@ mod proposal;
 mod tangles;
 mod within;
 
+pub use crate::clocks::propose_shared;
 pub use crate::locations::Doubt;
 pub use crate::proposal::{Proposal, propose};

@@ -188,8 +188,8 @@ fn find(
     Ok(None)
 }
 
-/// Proposes an order of the operations of a history, or contradictions in it: each names operations that are there. `NoMemory` comes if room is refused: about 50 bytes an
-/// operation are needed.
+/// Proposes an order of the operations of a history, or contradictions in it: each names operations that are there. No tick is looked for that a
+/// counter gave twice. `NoMemory` comes if room is refused: about 50 bytes an operation are needed.
 pub fn propose(alloc: Global, clock: Clock, operations: &[Operation]) -> Result<Proposal, NoMemory>
     ensures { IfOk result (λ proposal. NamesThose operations.now proposal) }
 {

@@ -48,6 +48,7 @@ fn is_within(contradiction: &Contradiction, count: usize) -> bool
         } => *source < count && *first < count && *second < count,
         Contradiction::Cycle { values, .. } => are_values_within(values, count),
         Contradiction::Backward { at } => *at < count,
+        Contradiction::OneTick { first, second } => *first < count && *second < count,
         Contradiction::Overlap { first, second } => *first < count && *second < count,
     }
 }

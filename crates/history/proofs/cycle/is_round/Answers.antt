@@ -1,17 +1,23 @@
-use Rattle.std.proofs.Common.{refl, inl, inr}
+use Rattle.std.proofs.Common.{sym, subst}
 use Rattle.std.proofs.lemmas.Bool.{OnTrue_at, OnTrue_from}
-use Rattle.history.proofs.Readers.{one_more, and_back}
+use Rattle.std.proofs.lemmas.List.{drop_more, drop_all}
+use Rattle.history.specs.Contradictions.{IsRound}
 use Rattle.history.proofs.cycle.is_round.Goals as goal
 
 pub loop-value-init : goal.loop-value-init
-loop-value-init c = record { source = c.requires.source; early = c.requires.early; came = inl refl }
+loop-value-init c = λ round. round
 
 pub loop-value-preserved : goal.loop-value-preserved
-loop-value-preserved c = record {
-  source = c.in-Some.ensures.source;
-  early = c.in-Some.ensures.early;
-  came = inr (one_more _ _ _ _ c.loop-value.invariant.source c.loop-value.invariant.came (OnTrue_at c.if-not-comes_first.false c.comes_first.ensures));
-}
+loop-value-preserved c =
+    λ round.
+    c.loop-value.invariant
+    (subst (IsRound c.args.operations.now c.args.place c.args.first c.loop-value.last) (sym (drop_more c.args.rest.now c.loop-value.value-index (record { source = 0; early = 0; late = 0 }) c.loop-value-test.true))
+    (OnTrue_at c.if-not-was_before.false c.was_before.ensures, round))
 
 pub returns : goal.returns
-returns c = OnTrue_from c.comes_first-2.result _ (λ e. and_back _ _ _ c.loop-value.invariant.source c.loop-value.invariant.came (OnTrue_at e c.comes_first-2.ensures))
+returns c =
+    OnTrue_from c.was_before-2.result _
+    (λ e.
+    c.loop-value.invariant
+    (subst (IsRound c.args.operations.now c.args.place c.args.first c.loop-value.last) (sym (drop_all c.loop-value.value-index c.args.rest.now c.loop-value-test.false))
+    (OnTrue_at e c.was_before-2.ensures)))

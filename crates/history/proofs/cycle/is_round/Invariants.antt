@@ -1,12 +1,7 @@
-use Rattle.std.proofs.Common.{◌≡◌, ◌⊎◌}
-use Rattle.std.specs.List.{Contains}
-use Rattle.history.specs.Contradictions.{ComesFirst}
+use Rattle.std.proofs.Common.{drop}
+use Rattle.history.specs.Contradictions.{IsRound}
 use Rattle.history.proofs.cycle.is_round.Given as goal
 
+-- what is left of the round is all that it wants
 abbrev pub invariant-loop-value : goal.invariant-loop-value
-invariant-loop-value l =
-    record {
-      source : Contains l.operations l.last.source;
-      early : Contains l.operations l.last.early;
-      came : (l.last.source ≡ l.first.source) ⊎ ComesFirst l.operations l.first.source l.last.source;
-    }
+invariant-loop-value l = IsRound l.operations l.place l.first l.last (drop l.value-index l.rest) → IsRound l.operations l.place l.first l.first l.rest
