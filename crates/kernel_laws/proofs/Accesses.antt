@@ -89,6 +89,7 @@ agree-shown space kernel name object page protected agree is =
           (λ inside. subst (λ at. IsShown space at protected) (same-page object.space page q inside) is) (agree.pages q);
       untold = agree.untold;
       alone = agree.alone;
+      ranged = agree.ranged;
     }
 
 -- what a page has at which the model has an access wait
@@ -227,6 +228,7 @@ answered-taken one cpu command reply access answered watched sound =
         pages = λ page. page-stored one.space (host_after one.space.host command) one.name page (one.kernel.pages one.object.space page) (λ registered. stored one.space command page reply answered watched registered access) (agree.pages page);
         untold = agree.untold;
         alone = agree.alone;
+        ranged = agree.ranged;
       };
     }
 

@@ -90,7 +90,7 @@ outside-by space kernel key name object start len bits most false agree right ar
       kernel = record kernel { outside = kernel.outside ++ key ∷ [] };
       object = object;
       taken = refl;
-      agree = record { sound = agree.sound; named = agree.named; features = agree.features; pages = agree.pages; unread = agree.unread; untold = agree.untold; alone = agree.alone };
+      agree = record { sound = agree.sound; named = agree.named; features = agree.features; pages = agree.pages; unread = agree.unread; untold = agree.untold; alone = agree.alone; ranged = agree.ranged };
     }
 
 pub outside : (space : Space) (kernel : Kernel) (key name : ℕ) (object : Object) (start len bits most : ℕ) → Agree space kernel name object → is_right object start len bits most ≡ true → is_one_area space (start / 4096) (len / 4096) ≡ false →

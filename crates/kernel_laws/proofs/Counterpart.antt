@@ -1,5 +1,5 @@
 -- A kernel whose object agrees with that of a space: it knows of no page whether it is present, and each unread event is of a call of its own.
-use Rattle.std.proofs.Common.{◌≡◌, ℕ, ◌+◌, ◌<◌, ◌≤◌, ◌&&◌, ◌||◌, Bool, true, false, not, cond, eqb, Some, None, List, [], ◌∷◌, ◌++◌, filter, map, arith, refl, sym, ap, subst, ◌∙◌}
+use Rattle.std.proofs.Common.{◌≡◌, ℕ, ◌+◌, ◌<◌, ◌≤◌, ◌^◌, ◌&&◌, ◌||◌, Bool, true, false, not, cond, eqb, ltb, Some, None, List, [], ◌∷◌, ◌++◌, filter, map, arith, refl, sym, ap, subst, ◌∙◌}
 use Rattle.std.proofs.lemmas.Bool.Decides.{nat_tests}
 use Rattle.std.proofs.lemmas.Bool.{false≢true, or_from}
 use Rattle.std.proofs.lemmas.List.Concat.{flat_map-cons}
@@ -10,7 +10,9 @@ use Rattle.mig_base.specs.declared.message.Message.{Message}
 use Rattle.mig_base.specs.Tests.{is_empty}
 use Rattle.mig_base.specs.Userfault.{Noted, is_registered}
 use Rattle.mig_base.proofs.TestLemmas.{eqb-self}
+use Rattle.mig_base.specs.declared.TheConstants.{HIGH_PAGE}
 use Rattle.mig_model.specs.Space.{IsSoundSpace, Space}
+use Rattle.mig_model.proofs.memory.IoctlLemmas.{below_high}
 use Rattle.kernel_rules.specs.declared.calling.Told.{Told}
 use Rattle.kernel_rules.specs.declared.calling.Untold.{Untold}
 use Rattle.kernel_rules.specs.declared.known.Page.{Page}
@@ -18,7 +20,7 @@ use Rattle.kernel_rules.specs.declared.known.Presence.TheVariants.{Unknown}
 use Rattle.kernel_rules.specs.declared.object.Object.{Object}
 use Rattle.kernel_rules.specs.Reads.{is_same_event}
 use Rattle.kernel_rules.specs.State.{Kernel, fresh_kernel}
-use Rattle.kernel_laws.specs.Agreement.{AgreesAt, AreUnmapsAndRemaps, AreUnread, AreUntold, Counterparts, are_once, features_of, have_ranks, is_of_another, is_unmap_or_remap, message_of, messages_of, telling}
+use Rattle.kernel_laws.specs.Agreement.{AgreesAt, AreUnmapsAndRemaps, AreUnread, AreUntold, Counterparts, are_once, features_of, has_page, have_ranks, is_of_another, is_unmap_or_remap, message_of, messages_of, telling}
 
 -- The calls of unread events, numbered from a number on
 
@@ -132,6 +134,7 @@ kernel_of space =
       calls = calls_of 0 space.object.events;
       told = told_of 0 space.object.events;
       events = events_of 0 space.object.events;
+      ranges = record { object = 0; first = 0; count = 2 ^ 52 } ∷ [];
       objects = λ name. Some (object_of space);
       pages = λ other page. cond (is_registered space.object page) (Some (page_of space page)) None;
     }
@@ -161,6 +164,10 @@ untold-of space are =
     filled [] some = some
     filled (one ∷ events) some = refl
 
+-- each page lies in its range
+everywhere : (page : ℕ) → ltb page HIGH_PAGE ≡ true → list_any (has_page 0 page) (record { object = 0; first = 0; count = 2 ^ 52 } ∷ []) ≡ true
+everywhere page below = grind (arith, nat_tests)
+
 pub counterpart : (space : Space) → IsSoundSpace space → space.object.faults ≡ [] → AreUnmapsAndRemaps space.object.events → (one : Counterparts) × (one.space ≡ space)
 unfolding kernel_of object_of
 counterpart space sound none are = (
@@ -177,6 +184,7 @@ counterpart space sound none are = (
       pages = λ page. agrees space page (is_registered space.object page) refl;
       untold = untold-of space are;
       alone = refl;
+      ranged = λ page h. everywhere page (below_high space page sound (sound.mapped page h));
     };
   },
   refl,

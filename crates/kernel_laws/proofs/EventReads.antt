@@ -68,7 +68,7 @@ none-one : {X : Type 0} (q : X → Bool) (x : X) (kept : List X) (b : Bool) → 
 none-one q x kept true none = none
 none-one q x kept false none = or_second (q x) (list_any q kept) none
 
-none-filter : {X : Type 0} (p q : X → Bool) (xs : List X) → list_any q xs ≡ false → list_any q (filter p xs) ≡ false
+pub none-filter : {X : Type 0} (p q : X → Bool) (xs : List X) → list_any q xs ≡ false → list_any q (filter p xs) ≡ false
 none-filter p q [] none = refl
 none-filter p q (x ∷ xs) none =
     none-one q x (filter p xs) (p x) (or_from (q x) (list_any q (filter p xs)) (or_first (q x) (list_any q xs) none) (none-filter p q xs (or_second (q x) (list_any q xs) none)))
@@ -86,7 +86,7 @@ apart : (key call : ℕ) (calls : List ℕ) (b : Bool) → eqb key call ≡ b �
 apart key call calls false is within none = refl
 apart key call calls true is within none = absurd (false≢true (sym none ∙ ap (λ n. list_any (λ other. eqb other n) calls) (sym (eqb-true key call is)) ∙ within))
 
-same-rest : (kernel now : Kernel) (key : ℕ) (calls : List ℕ) → list_any (λ other. eqb other key) calls ≡ false → ((other : ℕ) → eqb key other ≡ false → messages_of now other ≡ messages_of kernel other) →
+pub same-rest : (kernel now : Kernel) (key : ℕ) (calls : List ℕ) → list_any (λ other. eqb other key) calls ≡ false → ((other : ℕ) → eqb key other ≡ false → messages_of now other ≡ messages_of kernel other) →
     flat_map (messages_of now) calls ≡ flat_map (messages_of kernel) calls
 same-rest kernel now key [] none same = refl
 same-rest kernel now key (call ∷ calls) none same =
@@ -233,7 +233,7 @@ span-left span spans kept key other true false is same out rest = rest
 span-left span spans kept key other false true is same out rest = ap (λ e. cond e (Some span) (span_of kept other)) same
 span-left span spans kept key other false false is same out rest = ap (λ e. cond e (Some span) (span_of kept other)) same ∙ rest
 
-spans-left : (spans : List Span) (key other : ℕ) → eqb key other ≡ false → span_of (spans_without spans key) other ≡ span_of spans other
+pub spans-left : (spans : List Span) (key other : ℕ) → eqb key other ≡ false → span_of (spans_without spans key) other ≡ span_of spans other
 spans-left [] key other apart = refl
 spans-left (span ∷ spans) key other apart =
     span-left span spans (spans_without spans key) key other (eqb span.key key) (eqb span.key other) refl refl
@@ -243,7 +243,7 @@ span-gone : (span : Span) (kept : List Span) (key : ℕ) (b : Bool) → eqb span
 span-gone span kept key true is none = none
 span-gone span kept key false is none = ap (λ e. cond e (Some span) (span_of kept key)) is ∙ none
 
-spans-gone : (spans : List Span) (key : ℕ) → span_of (spans_without spans key) key ≡ None
+pub spans-gone : (spans : List Span) (key : ℕ) → span_of (spans_without spans key) key ≡ None
 spans-gone [] key = refl
 spans-gone (span ∷ spans) key = span-gone span (spans_without spans key) key (eqb span.key key) refl (spans-gone spans key)
 
@@ -286,7 +286,7 @@ queues-it : (kernel : Kernel) (key : ℕ) (told_all : Bool) (queued : List ℕ) 
 queues-it kernel key told_all queued none left =
     ap (λ (q : List ℕ). allowed (not (list_any (λ other. eqb other key) q) && not told_all) (record kernel { queued = q ++ key ∷ [] })) none ∙ ap (λ b. allowed (not b) (record kernel { queued = key ∷ [] })) left
 
-tells-anybody : (kernel : Kernel) (key name : ℕ) → tells_object kernel key name ≡ true → tells_anybody kernel key ≡ true
+pub tells-anybody : (kernel : Kernel) (key name : ℕ) → tells_object kernel key name ≡ true → tells_anybody kernel key ≡ true
 tells-anybody kernel key name is =
     any-weaker (λ (one : Told). eqb one.key key && eqb one.object name) (λ (one : Told). eqb one.key key) (λ one h. and_first (eqb one.key key) (eqb one.object name) h) kernel.told is
 
@@ -375,6 +375,7 @@ taken-by one key room noted rest are first events spans enabled fits left event 
             pages = λ page. page-requeued one.space one.space.object.faults rest name page (kernel.pages one.object.space page) (agree.pages page);
             untold = untold-left name (telling kernel) noted rest first events spans (numbers_without (call ∷ []) call) are ranks own gone after same;
             alone = agree.alone;
+            ranged = agree.ranged;
           });
     }
 

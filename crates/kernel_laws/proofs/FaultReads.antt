@@ -56,6 +56,7 @@ agree-requeued space kernel name object old new messages agree unread =
       pages = λ page. page-requeued space messages space.object.events name page (kernel.pages object.space page) (agree.pages page);
       untold = agree.untold;
       alone = agree.alone;
+      ranged = agree.ranged;
     }
 
 -- Noting a difference leaves the rest
@@ -67,7 +68,7 @@ noted-faults false difference kernel = refl
 agree-noted_with : (b : Bool) (difference : Difference) (faults : List Fault) (space : Space) (kernel : Kernel) (name : ℕ) (object : Object) → Agree space (record kernel { faults = faults }) name object →
     Agree space (record (noted_if b difference kernel) { faults = faults }) name object
 agree-noted_with true difference faults space kernel name object agree =
-    record { sound = agree.sound; named = agree.named; features = agree.features; pages = agree.pages; unread = agree.unread; untold = agree.untold; alone = agree.alone }
+    record { sound = agree.sound; named = agree.named; features = agree.features; pages = agree.pages; unread = agree.unread; untold = agree.untold; alone = agree.alone; ranged = agree.ranged }
 agree-noted_with false difference faults space kernel name object agree = agree
 
 -- A page fault

@@ -80,6 +80,7 @@ agree-opened host name sound =
       unread = record { on_their_way = tt; none_queued = refl };
       untold = record { same = refl; once = refl; ranks = refl; own = refl; tells = λ key some. absurd (false≢true (sym some)); none_queued = refl };
       alone = refl;
+      ranged = λ page h. absurd (false≢true (sym (nothing-registered page) ∙ h));
     }
 
 pub opens : (on : Descriptor) → Leads (at_rest fresh_kernel) (call_steps 0 (answered (call.Open false 0x800) (Opened on))) (at_rest (returned (opened_kernel on.object) 0))

@@ -24,7 +24,7 @@ bad_range start len inside bad = grind (arith, nat_tests)
 
 pub agree-noted : (b : Bool) (difference : Difference) (space : Space) (kernel : Kernel) (name : ℕ) (object : Object) → Agree space kernel name object → Agree space (noted_if b difference kernel) name object
 agree-noted true difference space kernel name object agree =
-    record { sound = agree.sound; named = agree.named; features = agree.features; pages = agree.pages; unread = agree.unread; untold = agree.untold; alone = agree.alone }
+    record { sound = agree.sound; named = agree.named; features = agree.features; pages = agree.pages; unread = agree.unread; untold = agree.untold; alone = agree.alone; ranged = agree.ranged }
 agree-noted false difference space kernel name object agree = agree
 
 agree-over : (test : Fault → Bool) (answered : Bool) (space : Space) (kernel : Kernel) (name : ℕ) (object : Object) → ((fault : Fault) → is_seen fault.phase ≡ true → not (test fault) ≡ true) → Agree space kernel name object →
@@ -38,6 +38,7 @@ agree-over test answered space kernel name object spares agree =
       unread = unread-filter (λ fault. not (test fault)) spares kernel.faults name object space.object.faults agree.unread;
       untold = agree.untold;
       alone = agree.alone;
+      ranged = agree.ranged;
     }
 
 spared : (own inside seen : Bool) → seen ≡ true → not (own && inside && not seen) ≡ true

@@ -18,3 +18,9 @@ pub mod FirstCalls
 pub mod Unnamed
 pub mod SourceRuns
 pub mod SourceOpens
+pub mod ExampleWorlds
+pub mod ExampleLog
+pub mod Unmaps
+pub mod MapReplies
+pub mod Returns
+pub mod Clearing

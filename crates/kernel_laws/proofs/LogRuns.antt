@@ -96,6 +96,7 @@ agree-returned space kernel key name object quiet agree =
       pages = agree.pages;
       untold = subst (λ k. AreUntold name k space.object.events) (quiet ∙ sym (told-returned kernel key quiet)) agree.untold;
       alone = agree.alone;
+      ranged = agree.ranged;
     }
 
 -- the steps of a call: its lines, and its effect between them

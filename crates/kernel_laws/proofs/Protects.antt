@@ -96,6 +96,7 @@ agree-protected space kernel name object first count protect every agree sound =
           (sym (ap (λ e. e && in_range first count page) (eqb-self object.space))) (agree.pages page);
       untold = agree.untold;
       alone = agree.alone;
+      ranged = agree.ranged;
     }
 
 agree-without : (key : ℕ) (space : Space) (kernel : Kernel) (name : ℕ) (object : Object) → Agree space kernel name object → Agree space (without_protected kernel key) name object
@@ -108,6 +109,7 @@ agree-without key space kernel name object agree =
       pages = agree.pages;
       untold = agree.untold;
       alone = ap (filter (λ (one : Protecting). not (eqb one.key key))) agree.alone;
+      ranged = agree.ranged;
     }
 
 agree-after : (space : Space) (kernel : Kernel) (key name : ℕ) (object : Object) (first count bits : ℕ) → Agree space kernel name object → IsSoundSpace (protected_in space first count (is_one bits 0)) →
@@ -206,6 +208,7 @@ protects space kernel key name object start len bits true false false false fals
         pages = λ page. perhaps-page space name page (is_one bits 0) (eqb object.space object.space && in_range first count page) (kernel.pages object.space page) (agree.pages page);
         untold = agree.untold;
         alone = agree.alone;
+        ranged = agree.ranged;
       };
     }
 protects space kernel key name object start len bits true false false false true agree inside he hm hw hc ha =

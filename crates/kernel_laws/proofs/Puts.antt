@@ -101,6 +101,7 @@ agree-put space kernel name object first done bits bytes agree sound absent =
           (λ inside. absent-at space first done page absent (sym (at page) ∙ inside)) (agree.pages page);
       untold = agree.untold;
       alone = agree.alone;
+      ranged = agree.ranged;
     } in
     agree-if (is_one bits 0) new put (woken put (sleeps_in name first done) true) name (record object { puts = true }) agrees (agree-woken first done true new put name (record object { puts = true }) agrees)
 
@@ -114,9 +115,9 @@ shown-page space name page true (Some one) there agrees =
 
 agree-stop : (put : Bool) (key : ℕ) (space : Space) (kernel : Kernel) (name : ℕ) (object : Object) → Agree space kernel name object → Agree space (stop_noted kernel put key) name object
 agree-stop true key space kernel name object agree =
-    record { sound = agree.sound; named = agree.named; features = agree.features; pages = agree.pages; unread = agree.unread; untold = agree.untold; alone = agree.alone }
+    record { sound = agree.sound; named = agree.named; features = agree.features; pages = agree.pages; unread = agree.unread; untold = agree.untold; alone = agree.alone; ranged = agree.ranged }
 agree-stop false key space kernel name object agree =
-    record { sound = agree.sound; named = agree.named; features = agree.features; pages = agree.pages; unread = agree.unread; untold = agree.untold; alone = agree.alone }
+    record { sound = agree.sound; named = agree.named; features = agree.features; pages = agree.pages; unread = agree.unread; untold = agree.untold; alone = agree.alone; ranged = agree.ranged }
 
 one_page : (s page q : ℕ) → (eqb s s && in_range page 1 q) ≡ true → page ≡ q
 one_page s page q h = grind (arith, nat_tests)
@@ -133,6 +134,7 @@ agree-shown space kernel name object page agree there =
           (λ inside. subst (λ at. contains_key space.host.bytes at ≡ true) (one_page object.space page q inside) there) (agree.pages q);
       untold = agree.untold;
       alone = agree.alone;
+      ranged = agree.ranged;
     }
 
 may-be-there : (absent missing has : Bool) → (absent ≡ true → has ≡ false) → has ≡ true → (not absent || not missing) ≡ true
@@ -205,6 +207,7 @@ agree-none space kernel name object first bytes protect agree sound =
       pages = λ page. page-put space first 0 name page bytes protect false (kernel.pages object.space page) agree.sound (in_range-none first page) (λ inside. absurd (false≢true inside)) (agree.pages page);
       untold = agree.untold;
       alone = agree.alone;
+      ranged = agree.ranged;
     }
 
 -- the first page is present

@@ -1,7 +1,9 @@
 -- UFFDIO_API, UFFDIO_REGISTER and UFFDIO_UNREGISTER.
 use Rattle.std.proofs.lemmas.Bool.Decides.{nat_tests}
 use Rattle.std.proofs.lemmas.Bool.{and_from, false≢true}
-use Rattle.std.proofs.Common.{◌≡◌, ℕ, zero, suc, ◌+◌, ◌/◌, ◌<◌, ◌&&◌, ◌||◌, Bool, true, false, not, cond, eqb, ltb, Option, Some, None, List, [], ◌∷◌, arith, refl, sym, ap, subst, ◌∙◌}
+use Rattle.std.proofs.lemmas.List.Folds.{list_any-append}
+use Rattle.std.specs.List.{list_any}
+use Rattle.std.proofs.Common.{◌≡◌, ℕ, zero, suc, ◌+◌, ◌/◌, ◌<◌, ◌^◌, ◌&&◌, ◌||◌, Bool, true, false, not, cond, eqb, ltb, leb, Option, Some, None, List, [], ◌∷◌, ◌++◌, arith, refl, sym, ap, subst, ◌∙◌}
 use Rattle.std.specs.FinMap.{contains_key}
 use Rattle.std.specs.FinSet.{contains}
 use Rattle.mig_base.specs.declared.TheConstants.{HIGH_PAGE}
@@ -27,7 +29,7 @@ use Rattle.kernel_rules.specs.Pages.{is_missing, is_present, known_as, registere
 use Rattle.kernel_rules.specs.declared.known.Presence.{Presence}
 use Rattle.kernel_rules.specs.declared.known.Presence.TheVariants.{Unknown, Missing, Present}
 use Rattle.kernel_rules.specs.State.{Kernel, allowed, asked_for, is_enabled, is_range, is_within, noted_if, page_is, some_page, with_object}
-use Rattle.kernel_laws.specs.Agreement.{Agree, AgreesAt, AreMapped, AreUnread, IsPage, Takes, answer_of_api, answer_of_register, answer_of_wake}
+use Rattle.kernel_laws.specs.Agreement.{Agree, AgreesAt, AreMapped, AreUnread, IsPage, Takes, answer_of_api, answer_of_register, answer_of_wake, has_page}
 use Rattle.kernel_laws.proofs.Calls.{refused}
 use Rattle.kernel_laws.proofs.Kernels.{agree-noted, agree-woken, is-enabled, right_range}
 
@@ -75,6 +77,7 @@ agree-shaken space kernel name object features agree none sound =
       pages = λ page. page-enabled space features name page (kernel.pages object.space page) (agree.pages page);
       untold = agree.untold;
       alone = agree.alone;
+      ranged = agree.ranged;
     }
 
 may_fail : (e a f : Bool) → (e ≡ true) → (e || a || f) ≡ true
@@ -119,14 +122,14 @@ api-taken space kernel name object api features ioctls agree offer none =
 
 -- UFFDIO_UNREGISTER
 
-gone : (space : Space) (first count page : ℕ) → in_range first count page ≡ true → is_registered (unregistered space.object first count) page ≡ false
+pub gone : (space : Space) (first count page : ℕ) → in_range first count page ≡ true → is_registered (unregistered space.object first count) page ≡ false
 gone space first count page inside = grind (arith, nat_tests, member_without)
 
-kept : (space : Space) (first count page : ℕ) → in_range first count page ≡ false →
+pub kept : (space : Space) (first count page : ℕ) → in_range first count page ≡ false →
     (contains (unregistered space.object first count).missing page ≡ contains space.object.missing page) × (contains (unregistered space.object first count).protect page ≡ contains space.object.protect page)
 kept space first count page outside = (grind (arith, nat_tests, member_without), grind (arith, nat_tests, member_without))
 
-still-protected : (space : Space) (first count page : ℕ) → contains (unregistered_in space first count).protected page ≡ true → contains space.protected page ≡ true
+pub still-protected : (space : Space) (first count page : ℕ) → contains (unregistered_in space first count).protected page ≡ true → contains space.protected page ≡ true
 still-protected space first count page guarded = grind (arith, nat_tests, member_without)
 
 page-unregistered : (space : Space) (first count name page : ℕ) (b : Bool) (found : Option Page) → in_range first count page ≡ b → AgreesAt space name page found → AgreesAt (unregistered_in space first count) name page (cond b (without_object name found) found)
@@ -146,6 +149,9 @@ page-unregistered space first count name page false (Some one) is agrees =
       guarded = λ guarded. agrees.guarded (still-protected space first count page guarded);
     }
 
+pub was-registered : (space : Space) (first count page : ℕ) → is_registered (unregistered space.object first count) page ≡ true → is_registered space.object page ≡ true
+was-registered space first count page h = grind (arith, nat_tests, member_without)
+
 agree-unregistered : (space : Space) (kernel : Kernel) (name : ℕ) (object : Object) (first count : ℕ) → Agree space kernel name object → IsSoundSpace (unregistered_in space first count) → Agree (unregistered_in space first count) (rules.unregistered_in kernel name object first count) name object
 agree-unregistered space kernel name object first count agree sound =
     record {
@@ -158,6 +164,7 @@ agree-unregistered space kernel name object first count agree sound =
           (sym (ap (λ e. e && in_range first count page) (eqb-self object.space))) (agree.pages page);
       untold = agree.untold;
       alone = agree.alone;
+      ranged = λ page h. agree.ranged page (was-registered space first count page h);
     }
 
 unregisters : (space : Space) (kernel : Kernel) (name : ℕ) (object : Object) (start len : ℕ) (e w b : Bool) → Agree space kernel name object → is_enabled object ≡ e → is_bad_range start len ≡ w →
@@ -283,9 +290,23 @@ page-registered space first count name page mode true (Some one) sound some is m
     page-again space first count name page mode ((not mode.missing || one.missing) && (not mode.protect || one.protect)) one sound some is (mapped refl) agrees
     (λ i. (not mode.missing || sym agrees.missing i) && (not mode.protect || sym agrees.protect i))
 
-agree-registered : (space : Space) (kernel : Kernel) (name : ℕ) (object : Object) (first count : ℕ) (mode : Mode) → Agree space kernel name object → (mode.missing || mode.protect) ≡ true → ((page : ℕ) → in_range first count page ≡ true → contains_key space.host.areas page ≡ true) →
+-- a page of the range, or one that lay in another
+ranged-registered : (space : Space) (kernel : Kernel) (name : ℕ) (object : Object) (first count page : ℕ) (mode : Mode) (b : Bool) → Agree space kernel name object → in_range first count page ≡ b → leb (first + count) (2 ^ 52) ≡ true →
+    is_registered (registered_in space first count mode).object page ≡ true → list_any (has_page name page) (kernel.ranges ++ record { object = name; first = first; count = count } ∷ []) ≡ true
+ranged-registered space kernel name object first count page mode true agree is fits h =
+    list_any-append (has_page name page) kernel.ranges (record { object = name; first = first; count = count } ∷ [])
+    ∙ (λ i. list_any (has_page name page) kernel.ranges || ((eqb-self name i && fits i) && is i || false)) ∙ or_end (list_any (has_page name page) kernel.ranges)
+  where
+    or_end : (b : Bool) → (b || true) ≡ true
+    or_end b = grind (arith, nat_tests)
+ranged-registered space kernel name object first count page mode false agree is fits h =
+    let same = modes-left space first count page mode agree.sound is in
+    list_any-append (has_page name page) kernel.ranges (record { object = name; first = first; count = count } ∷ [])
+    ∙ ap (λ b. b || (has_page name page (record { object = name; first = first; count = count }) || false)) (agree.ranged page (sym (λ i. same.0 i || same.1 i) ∙ h))
+
+agree-registered : (space : Space) (kernel : Kernel) (name : ℕ) (object : Object) (first count : ℕ) (mode : Mode) → Agree space kernel name object → leb (first + count) (2 ^ 52) ≡ true → (mode.missing || mode.protect) ≡ true → ((page : ℕ) → in_range first count page ≡ true → contains_key space.host.areas page ≡ true) →
     Agree (registered_in space first count mode) (rules.with_range (rules.with_registered kernel name object.space first count mode) name first count) name object
-agree-registered space kernel name object first count mode agree some mapped =
+agree-registered space kernel name object first count mode agree fits some mapped =
     let at = λ (page : ℕ). ap (λ e. e && in_range first count page) (eqb-self object.space) in
     record {
       sound = IsSoundSpace-registered space first count mode agree.sound;
@@ -297,6 +318,7 @@ agree-registered space kernel name object first count mode agree some mapped =
           (λ inside. mapped page (sym (at page) ∙ inside)) (agree.pages page);
       untold = agree.untold;
       alone = agree.alone;
+      ranged = λ page h. ranged-registered space kernel name object first count page mode (in_range first count page) agree refl fits h;
     }
 
 right_mode : (bits : ℕ) → is_bad_mode bits ≡ false → is_mode bits ≡ true
@@ -319,6 +341,9 @@ own space name page (Some one) agrees = ap not (ap (λ n. eqb n name) agrees.obj
 no-other : (space : Space) (kernel : Kernel) (name : ℕ) (object : Object) (first count : ℕ) → Agree space kernel name object → some_page kernel object.space first count (λ page. not (eqb page.object name)) ≡ false
 no-other space kernel name object first count agree =
     ap not (none_below-from _ count (λ i low. ap (λ b. not (not b)) (own space name (first + i) (kernel.pages object.space (first + i)) (agree.pages (first + i)))))
+
+in-space : (start len : ℕ) → is_range start len ≡ true → leb (start / 4096 + len / 4096) (2 ^ 52) ≡ true
+in-space start len is = grind (arith, nat_tests)
 
 may_register : (c e m r o : Bool) → c ≡ true → e ≡ true → m ≡ true → r ≡ true → o ≡ false → (c && e && m && r && not o) ≡ true
 may_register c e m r o hc he hm hr ho = grind (arith, nat_tests)
@@ -344,7 +369,7 @@ registers space kernel name object start len bits ioctls true false false false 
       kernel = new;
       object = object;
       taken = ap (λ b. allowed b new) (may_register (has_calls ioctls) (is_enabled object) (is_mode bits) (is_range start len) other calls he (right_mode bits hm) (right_range start len hw) (no-other space kernel name object first count agree));
-      agree = agree-noted without RegisterWithoutEvents (registered_in space first count mode) put name object (agree-registered space kernel name object first count mode agree (any_mode bits hm) (mapped refl));
+      agree = agree-noted without RegisterWithoutEvents (registered_in space first count mode) put name object (agree-registered space kernel name object first count mode agree (in-space start len (right_range start len hw)) (any_mode bits hm) (mapped refl));
     }
 
 pub register-taken : (space : Space) (kernel : Kernel) (name : ℕ) (object : Object) (start len bits ioctls : ℕ) → Agree space kernel name object → has_calls ioctls ≡ true → (register_error space start len bits ≡ None → AreMapped space start len) →

@@ -152,6 +152,7 @@ agree-shaken world reached name idle =
       untold = subst (λ (queue : List Noted). AreUntold name (telling (shaken_kernel name)) queue) (sym events)
           (record { same = refl; once = refl; ranks = refl; own = refl; tells = λ key some. absurd (false≢true (sym some)); none_queued = refl });
       alone = refl;
+      ranged = λ page h. absurd (false≢true (sym (or_none (contains space.object.missing page) (contains space.object.protect page) (bare page).0 (bare page).1) ∙ h));
     }
 
 -- The whole log

@@ -278,6 +278,7 @@ leave-all space kernel name object (noted ∷ rest) agree =
       unread = record { on_their_way = agree.unread.on_their_way.2; none_queued = gone kernel.faults name fault.thread agree.unread.none_queued };
       untold = agree.untold;
       alone = agree.alone;
+      ranged = agree.ranged;
     } in
     let later = leave-all space now name object rest (agree-noted signalled LeftByASignal (requeued space rest space.object.events) over name object agreed) in
     record {

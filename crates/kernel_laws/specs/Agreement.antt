@@ -20,7 +20,7 @@ use Rattle.uffd_log.specs.declared.errno.Errno.TheVariants as kernel
 use Rattle.uffd_log.specs.declared.line.Answer.{Answer}
 use Rattle.uffd_log.specs.declared.line.Answer.TheVariants as answer
 use Rattle.kernel_rules.specs.Faults.{fault_of, faults_without, is_seen}
-use Rattle.kernel_rules.specs.Ioctls.{span_of, tells_object}
+use Rattle.kernel_rules.specs.Ioctls.{is_own, span_of, tells_object}
 use Rattle.kernel_rules.specs.Pages.{is_missing, is_present}
 use Rattle.kernel_rules.specs.Reads.{first_unread, is_message, is_same_event}
 use Rattle.kernel_rules.specs.State.{Kernel, fresh_kernel}
@@ -29,6 +29,7 @@ use Rattle.kernel_rules.specs.declared.calling.Untold.{Untold}
 use Rattle.kernel_rules.specs.declared.fault.Fault.{Fault}
 use Rattle.kernel_rules.specs.declared.known.Page.{Page}
 use Rattle.kernel_rules.specs.declared.object.Object.{Object}
+use Rattle.kernel_rules.specs.declared.object.Registration.{Registration}
 
 -- what is known of a page agrees with the page of a space: it is registered with this object, in the same modes; it is not known to be missing
 -- where it is present, nor present where it is missing; and it is guarded where it is write-protected. The rules may guard more pages, as after
@@ -120,13 +121,18 @@ pub record AreUntold (name : ℕ) (kernel : Kernel) (events : List Noted) : Type
 
 -- Objects
 
+-- whether a page lies in a range, if it is one of the object
+abbrev pub has_page : ℕ → ℕ → Registration → Bool
+has_page name page range = is_own name range && in_range range.first range.count page
+
 -- what the handshake asked for, if it was made
 abbrev pub features_of : Bool → ℕ → Option ℕ
 features_of true features = Some features
 features_of false features = None
 
--- the object of a space agrees with the object of this name: both had the same handshake or none, the same messages are unread, and no
--- other object has a page there. No UFFDIO_WRITEPROTECT has protected a part of its range
+-- the object of a space agrees with the object of this name: both had the same handshake or none, the same messages are unread, no
+-- other object has a page there, and each registered page lies in a range that the object has registered. No UFFDIO_WRITEPROTECT has
+-- protected a part of its range
 pub record Agree (space : Space) (kernel : Kernel) (name : ℕ) (object : Object) : Type 0 where
   pub sound : IsSoundSpace space
   pub named : kernel.objects name ≡ Some object
@@ -135,6 +141,7 @@ pub record Agree (space : Space) (kernel : Kernel) (name : ℕ) (object : Object
   pub unread : AreUnread kernel.faults name object space.object.faults
   pub untold : AreUntold name (telling kernel) space.object.events
   pub alone : kernel.protected ≡ []
+  pub ranged : (page : ℕ) → is_registered space.object page ≡ true → list_any (has_page name page) kernel.ranges ≡ true
 
 -- two objects that agree
 pub record Counterparts : Type 0 where

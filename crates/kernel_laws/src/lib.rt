@@ -1,26 +1,34 @@
 //! The rules of a kernel allow what the object of the model answers: each ioctl and each read(2), and the logs of both nodes' calls. What is
 //! known of the kernel's object afterwards agrees with the model's. The other way round nothing is said: a kernel may also answer otherwise.
-//! `specs/Agreement.antt` says what agrees, `Reading.antt` how messages are read and threads wait, `Handlers.antt` what the nodes' handlers
-//! call, and `Logs.antt` what the log of a node is.
+//! `specs/Agreement.antt` says what agrees, `Reading.antt` how messages are read and threads wait, `Maps.antt` what a map call needs,
+//! `Handlers.antt` what the nodes' handlers call, `Logs.antt` what the log of a node is, and `Example.antt` has one.
 //!
 //! Each law is a function with an empty body, whose contract is the law.
 #![tactic(auto)]
 
-ghost use Rattle.std.specs.Prelude.{◌≡◌, ◌+◌, ◌*◌, ℕ, true, false, Option, None, List, [], ◌∷◌, length};
+ghost use Rattle.std.specs.Prelude.{◌≡◌, ◌+◌, ◌*◌, ℕ, true, false, Option, Some, None, List, [], ◌∷◌, length};
 ghost use Rattle.mig_base.specs.declared.TheConstants.{PAGE_SIZE};
+ghost use Rattle.mig_base.specs.declared.command.Command.{Command};
+ghost use Rattle.mig_base.specs.declared.command.Errno.{Errno};
+ghost use Rattle.mig_base.specs.declared.command.Reply.{Reply};
 ghost use Rattle.mig_base.specs.declared.effect.Effect.{Effect};
 ghost use Rattle.mig_base.specs.declared.schedule.Step.{Step};
 ghost use Rattle.mig_base.specs.Bytes.{zero_page};
+ghost use Rattle.mig_base.specs.Flat.{dontneed_reply, munmap_reply};
 ghost use Rattle.mig_model.specs.Ioctls as model;
 ghost use Rattle.mig_model.specs.Ioctls.{read_space};
 ghost use Rattle.mig_model.specs.Migration.{next};
 ghost use Rattle.mig_model.specs.Wire.{Copy};
 ghost use Rattle.mig_model.specs.Space.{IsSoundSpace, Space, access_of, accessed};
+ghost use Rattle.uffd_log.specs.declared.line.Answer.{Answer};
 ghost use Rattle.kernel_rules.specs.Ioctls as rules;
+ghost use Rattle.kernel_rules.specs.MapCalls.{clears, may_return, returned};
 ghost use Rattle.kernel_rules.specs.State.{may_be_outside};
-ghost use Rattle.kernel_laws.specs.Agreement.{AreMapped, AreUnmapsAndRemaps, Counterparts, Takes, answer_of_api, answer_of_put, answer_of_register, answer_of_wake, is_inside};
+ghost use Rattle.kernel_laws.specs.Agreement.{Agree, AreMapped, AreUnmapsAndRemaps, Counterparts, Takes, answer_of_api, answer_of_put, answer_of_register, answer_of_wake, is_inside};
+ghost use Rattle.kernel_laws.specs.Example.{IsOfDestination, its_calls};
 ghost use Rattle.kernel_laws.specs.Handlers.{DestinationStep, SourceStep, copies_page, destination_after, protects_pages, source_after, wakes_page, zeroes_page};
-ghost use Rattle.kernel_laws.specs.Logs.{AreLogged, Arrival, Beginning, HasRun, HaveNoMapCalls, IsUnreleased, Running, Watching, arrived, destination, source, source_log, space_after, whole_log};
+ghost use Rattle.kernel_laws.specs.Logs.{AreLogged, Arrival, Beginning, HasRun, HaveNoMapCalls, IsUnreleased, Running, Watching, arrived, destination, lines_of_calls, source, source_log, space_after, whole_log};
+ghost use Rattle.kernel_laws.specs.Maps.{Follow, IsPlaced, IsUnseen, MapCall, Mapping, MayClear, command_of, discards, failed, flat, maps, reply_of, unmaps};
 ghost use Rattle.kernel_laws.specs.Reading.{EventNext, FaultNext, NoneNext, Trying, fails_to_read, makes, reads_event, reads_fault};
 
 /// A kernel may answer each ioctl as the model does, whether it is refused, or done in part or whole. The range ends in the model's address
@@ -84,6 +92,31 @@ pub fn a_thread_waits_as_a_processor()
         (accessed it.one.space it.cpu it.command) it.one.name }
 {}
 
+/// A kernel may make a guest's munmap(2), mmap(2) and MADV_DONTNEED as the model does, without a difference, and both agree afterwards. The range
+/// is no longer registered, or cleared, and if any page of it was registered an UNMAP or a REMOVE of it waits to be read. A refused call
+/// changes nothing; a call returns once all that it told is read. Its number is new, and a fixed mapping is where it was to be. No page that
+/// MADV_DONTNEED clears is known to be present: a kernel clears it only when the REMOVE is read. mremap(2) is left out.
+pub fn a_kernel_may_map_so()
+    ensures munmap { (it : MapCall) (cpu addr len : ℕ) → munmap_reply addr len ≡ Reply.Done →
+        Follow it cpu (Command.Munmap addr len) (unmaps it addr len Answer.Done) }
+    ensures munmap_refused { (it : MapCall) (cpu addr len : ℕ) (errno : Errno) →
+        munmap_reply addr len ≡ Reply.Refused errno →
+        Follow it cpu (Command.Munmap addr len) (unmaps it addr len (failed errno)) }
+    ensures mmap { (it : MapCall) (made : Mapping) (cpu start : ℕ) →
+        reply_of it made ≡ Reply.At start → IsPlaced made start →
+        Follow it cpu (command_of made) (maps it made (Answer.Value start)) }
+    ensures mmap_refused { (it : MapCall) (made : Mapping) (cpu : ℕ) (errno : Errno) →
+        reply_of it made ≡ Reply.Refused errno →
+        Follow it cpu (command_of made) (maps it made (failed errno)) }
+    ensures dontneed { (it : MapCall) (cpu addr len : ℕ) →
+        dontneed_reply (flat it) addr len ≡ Reply.Done → IsUnseen it addr len →
+        Follow it cpu (Command.DontNeed addr len) (discards it addr len) }
+    ensures clears { (one : Counterparts) (key : ℕ) → MayClear one key →
+        Takes (clears one.kernel key) one.space one.name }
+    ensures returns { (one : Counterparts) (key : ℕ) → may_return one.kernel key ≡ true →
+        Agree one.space (returned one.kernel key) one.name one.object }
+{}
+
 /// The calls of a destination's handler are calls of a kernel: UFFDIO_COPY where a copy is installed, UFFDIO_ZEROPAGE where a page is made
 /// zeros, and UFFDIO_WAKE where nothing is to be put. The kernel's object agrees with the destination's again afterwards. The buffer of
 /// UFFDIO_COPY is where any process may have memory; a copy of zeros may be put by UFFDIO_ZEROPAGE.
@@ -140,6 +173,13 @@ pub fn a_destination_is_logged()
     ensures whole { (it : Arrival) (steps : List Step) → HaveNoMapCalls steps →
         HasRun false (whole_log it steps)
         (space_after (destination it.on it.from) (arrived it) steps) }
+{}
+
+/// There is such a log: the destination opens its object, registers the guest's one page, reads a page fault and copies the page. Its processor
+/// sleeps, the page is requested, and the install wakes it.
+pub fn a_destination_fetches_a_page()
+    ensures log { IsOfDestination (lines_of_calls 0 its_calls) }
+    ensures run { (space : Space) × HasRun false (lines_of_calls 0 its_calls) space }
 {}
 
 /// So is a source, until its memory is released. Start and Round register every mapped page in both modes, and a page is protected before it

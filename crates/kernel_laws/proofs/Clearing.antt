@@ -1,0 +1,263 @@
+-- A MADV_DONTNEED over pages that are not known to be present: both objects have the same REMOVE to tell if any of them is registered.
+use Rattle.std.proofs.lemmas.Bool.Decides.{nat_tests}
+use Rattle.std.proofs.lemmas.Bool.{eqb-true, false≢true}
+use Rattle.std.proofs.lemmas.Grind.{flat_map-append}
+use Rattle.std.proofs.lemmas.List.Concat.{flat_map-cons}
+use Rattle.std.proofs.lemmas.List.Folds.{list_any-append}
+use Rattle.std.proofs.lemmas.List.{append-nil, map-append}
+use Rattle.std.proofs.lemmas.Option.{none-some}
+use Rattle.std.proofs.Common.{◌≡◌, ℕ, ◌+◌, ◌-◌, ◌*◌, ◌/◌, ◌%◌, ◌&&◌, ◌||◌, Bool, true, false, not, cond, eqb, Option, Some, None, List, [], ◌∷◌, ◌++◌, filter, map, arith, refl, sym, ap, subst, ◌∙◌}
+use Rattle.std.specs.Prelude.{if◌then◌else◌, is_some}
+use Rattle.std.specs.List.{flat_map, list_any}
+use Rattle.std.specs.FinMap.{contains_key, get}
+use Rattle.std.specs.FinSet.{contains}
+use Rattle.mig_base.specs.declared.command.Command.TheVariants.{DontNeed}
+use Rattle.mig_base.specs.declared.command.Reply.TheVariants.{Done}
+use Rattle.mig_base.specs.declared.message.Message.TheVariants.{Remove}
+use Rattle.mig_base.specs.Flat.{dontneed_reply, reply_of}
+use Rattle.mig_base.specs.Pages.{remove_range}
+use Rattle.mig_base.specs.Ranges.{in_range, pages_of, rounded}
+use Rattle.mig_base.specs.Sets.{without}
+use Rattle.mig_base.specs.Tests.{is_empty}
+use Rattle.mig_base.specs.Userfault.{Noted, is_watched}
+use Rattle.mig_base.proofs.PageLemmas.{get-remove_range}
+use Rattle.mig_base.proofs.RangeLemmas.{in_range_bounds}
+use Rattle.mig_base.proofs.ReplyLemmas.{dontneed_done}
+use Rattle.mig_base.proofs.SetLemmas.{member_without}
+use Rattle.mig_base.proofs.TestLemmas.{eqb-self}
+use Rattle.mig_model.specs.Host.{host_dropped, memory}
+use Rattle.mig_model.specs.Space.{IsSoundSpace, Space, all_queued, called, message_if}
+use Rattle.mig_model.proofs.memory.SpaceLemmas.{IsSoundSpace-called}
+use Rattle.uffd_log.specs.declared.call.Message.{Message as LogMessage}
+use Rattle.uffd_log.specs.declared.call.Message.TheVariants as log
+use Rattle.uffd_log.specs.declared.line.Answer.TheVariants as answer
+use Rattle.kernel_rules.specs.declared.calling.Span.{Span}
+use Rattle.kernel_rules.specs.declared.calling.Told.{Told}
+use Rattle.kernel_rules.specs.declared.calling.Untold.{Untold}
+use Rattle.kernel_rules.specs.declared.known.Page.{Page}
+use Rattle.kernel_rules.specs.declared.known.Presence.TheVariants.{Missing}
+use Rattle.kernel_rules.specs.Ioctls.{span_of, tells_object}
+use Rattle.kernel_rules.specs.MapCalls.{cleared_by, cleared_to, clearing, clears, is_told_all, madvised, spans_without, with_all_told, with_clearing}
+use Rattle.kernel_rules.specs.Pages.{cleared_page, is_present, known_as}
+use Rattle.kernel_rules.specs.Changes.{page_with}
+use Rattle.kernel_rules.specs.State.{Kernel, allowed, page_is}
+use Rattle.kernel_laws.specs.Agreement.{Agree, AgreesAt, AreUntold, Counterparts, Takes, messages_of, message_of, removes, telling}
+use Rattle.kernel_laws.specs.Maps.{AreGone, AreUnseen, MapCall}
+use Rattle.kernel_laws.proofs.EventReads.{same-rest}
+use Rattle.kernel_laws.proofs.MapReplies.{by-reply}
+use Rattle.kernel_laws.proofs.Registers.{still-protected}
+use Rattle.kernel_laws.proofs.Unmaps.{IsNew, filtered-none, is-watched, new-call, once-more, remove-tells, same-bytes, told-more}
+
+-- The REMOVE
+
+span-more : (span : Span) (spans : List Span) (other : ℕ) → span_of (spans ++ span ∷ []) other ≡ (if is_some (span_of spans other) then span_of spans other else cond (eqb span.key other) (Some span) None)
+span-more span [] other = refl
+span-more span (first ∷ spans) other = one (eqb first.key other) first (span_of spans other) _ (span-more span spans other) where
+  one : (b : Bool) (first : Span) (found : Option Span) (more : Option Span) → more ≡ (if is_some found then found else cond (eqb span.key other) (Some span) None) →
+      cond b (Some first) more ≡ (if is_some (cond b (Some first) found) then cond b (Some first) found else cond (eqb span.key other) (Some span) None)
+  one true first found more is = refl
+  one false first found more is = is
+
+kept-span : (o : Option Span) → (if is_some o then o else None) ≡ o
+kept-span None = refl
+kept-span (Some span) = refl
+
+abbrev texts : List Untold → List LogMessage
+texts events = map (λ (one : Untold). one.message) events
+
+untold-remove : (name : ℕ) (kernel : Kernel) (key space first end : ℕ) (events : List Noted) (noted : Noted) → IsNew kernel key → AreUntold name kernel events → message_of noted.message ≡ log.Remove (4096 * first) (4096 * end) →
+    AreUntold name
+    (record kernel {
+      calls = kernel.calls ++ key ∷ [];
+      told = kernel.told ++ record { key = key; object = name } ∷ [];
+      untold = kernel.untold ++ record { key = key; space = space; first = first; end = end } ∷ [];
+      clears = kernel.clears ++ record { key = key; space = space; first = first; end = end } ∷ [];
+    })
+    (events ++ noted ∷ [])
+untold-remove name kernel key space first end events noted new are is =
+    let span : Span = record { key = key; space = space; first = first; end = end } in
+    let teller : Told = record { key = key; object = name } in
+    let now : Kernel = record kernel { calls = kernel.calls ++ key ∷ []; told = kernel.told ++ teller ∷ []; untold = kernel.untold ++ span ∷ []; clears = kernel.clears ++ span ∷ [] } in
+    let others : (other : ℕ) → eqb key other ≡ false → messages_of now other ≡ messages_of kernel other =
+    λ other apart.
+    ap (λ s. texts (filter (λ (one : Untold). eqb one.key other) kernel.events) ++ removes s)
+    (span-more span kernel.untold other ∙ ap (λ b. if is_some (span_of kernel.untold other) then span_of kernel.untold other else cond b (Some span) None) apart ∙ kept-span (span_of kernel.untold other)) in
+    let own : messages_of now key ≡ log.Remove (4096 * first) (4096 * end) ∷ [] =
+    (λ i. texts (filtered-none (λ (one : Untold). eqb one.key key) kernel.events new.events i) ++ removes (span-more span kernel.untold key i))
+    ∙ (λ i. removes (if is_some (new.spans i) then new.spans i else cond (eqb-self key i) (Some span) None)) in
+    record {
+      same = flat_map-append (messages_of now) kernel.calls (key ∷ [])
+          ∙ (λ i. same-rest kernel now key kernel.calls new.calls others i ++ (flat_map-cons (messages_of now) key [] ∙ ap (λ l. l ++ []) own) i)
+          ∙ (λ i. are.same i ++ sym is i ∷ [])
+          ∙ sym (map-append (λ (one : Noted). message_of one.message) events (noted ∷ []));
+      once = once-more key kernel.calls are.once new.calls;
+      ranks = are.ranks;
+      own = are.own;
+      tells = λ other some.
+          list_any-append (λ (one : Told). eqb one.key other && eqb one.object name) kernel.told (teller ∷ [])
+          ∙ told-more name key other kernel.told (eqb key other) refl (λ apart. are.tells other (ap is_empty (sym (others other apart)) ∙ some));
+      none_queued = are.none_queued;
+    }
+
+-- The pages
+
+abbrev is_seen_page : Page → Bool
+is_seen_page page = is_present page.presence
+
+dropped-bytes : (space : Space) (first count page : ℕ) → in_range first count page ≡ true → contains_key (remove_range space.host.bytes first count) page ≡ false
+dropped-bytes space first count page inside = ap is_some (get-remove_range space.host.bytes first count page ∙ ap (λ b. cond b None (get space.host.bytes page)) inside)
+
+page-dropped : (space new : Space) (first count name page : ℕ) (b : Bool) (found : Option Page) → new.host.bytes ≡ remove_range space.host.bytes first count → new.protected ≡ without space.protected first count →
+    new.object.missing ≡ space.object.missing → new.object.protect ≡ space.object.protect → in_range first count page ≡ b → (b ≡ true → page_is is_seen_page found ≡ false) → AgreesAt space name page found → AgreesAt new name page found
+page-dropped space new first count name page b None bytes guards missing protect is unseen agrees = (λ i. contains (missing i) page || contains (protect i) page) ∙ agrees
+page-dropped space new first count name page b (Some one) bytes guards missing protect is unseen agrees =
+    record {
+      object = agrees.object;
+      missing = agrees.missing ∙ ap (λ s. contains s page) (sym missing);
+      protect = agrees.protect ∙ ap (λ s. contains s page) (sym protect);
+      registered = (λ i. contains (missing i) page || contains (protect i) page) ∙ agrees.registered;
+      absent = λ h. ap (λ m. contains_key m page) bytes ∙ absent b is (agrees.absent h);
+      present = λ h. ap (λ m. contains_key m page) bytes ∙ there b is h unseen (agrees.present h);
+      guarded = λ h. agrees.guarded (still-protected space first count page (ap (λ s. contains s page) (sym guards) ∙ h));
+    }
+  where
+    absent : (b : Bool) → in_range first count page ≡ b → contains_key space.host.bytes page ≡ false → contains_key (remove_range space.host.bytes first count) page ≡ false
+    absent true is none = dropped-bytes space first count page is
+    absent false is none = same-bytes space.host.bytes first count page is ∙ none
+
+    there : (b : Bool) → in_range first count page ≡ b → is_present one.presence ≡ true → (b ≡ true → is_present one.presence ≡ false) → contains_key space.host.bytes page ≡ true → contains_key (remove_range space.host.bytes first count) page ≡ true
+    there true is h unseen some = absurd (false≢true (sym (unseen refl) ∙ h))
+    there false is h unseen some = same-bytes space.host.bytes first count page is ∙ some
+
+-- where no page of the range is registered
+page-cleared : (space new : Space) (first count name page : ℕ) (b : Bool) (found : Option Page) → new.host.bytes ≡ remove_range space.host.bytes first count → new.protected ≡ without space.protected first count →
+    new.object.missing ≡ space.object.missing → new.object.protect ≡ space.object.protect → is_watched space.object first count ≡ false → in_range first count page ≡ b → AgreesAt space name page found →
+    AgreesAt new name page (cond b (page_with (cleared_page Missing) found) found)
+page-cleared space new first count name page true None bytes guards missing protect none is agrees = (λ i. contains (missing i) page || contains (protect i) page) ∙ agrees
+page-cleared space new first count name page true (Some one) bytes guards missing protect none is agrees =
+    let bounds = in_range_bounds first count page is in
+    absurd (false≢true (sym none ∙ is-watched space first count page bounds.0 bounds.1 agrees.registered))
+page-cleared space new first count name page false found bytes guards missing protect none is agrees = page-dropped space new first count name page false found bytes guards missing protect is (λ h. absurd (false≢true h)) agrees
+
+-- Both afterwards
+
+abbrev dropped_space : Space → (first count start stop cpu : ℕ) → (watched : Bool) → Space
+dropped_space space first count start stop cpu watched =
+    record {
+      host = host_dropped space.host first count;
+      protected = without space.protected first count;
+      object = all_queued space.object (message_if watched (Remove start stop)) cpu;
+    }
+
+-- the kernel, by whom the call tells
+abbrev clearing_by : Kernel → (key space first count : ℕ) → List ℕ → Kernel
+clearing_by kernel key space first count told =
+    if is_empty told then cleared_to kernel space first count Missing else with_clearing (with_all_told kernel key told) key space first count
+
+cleared-by : (it : MapCall) (first count start stop cpu : ℕ) (w : Bool) → is_watched it.one.space.object first count ≡ w → start ≡ 4096 * first → stop ≡ 4096 * (first + count) → AreUnseen it.one first count →
+    IsSoundSpace (dropped_space it.one.space first count start stop cpu w) →
+    Agree (dropped_space it.one.space first count start stop cpu w) (clearing_by it.one.kernel it.key it.one.object.space first count (cond w (it.one.name ∷ []) [])) it.one.name it.one.object
+cleared-by it first count start stop cpu false is low high unseen sound =
+    let agree = it.one.agree in
+    let own = it.one.object.space in
+    record {
+      sound = sound;
+      named = agree.named;
+      features = agree.features;
+      pages = λ page.
+          page-cleared it.one.space (dropped_space it.one.space first count start stop cpu false) first count it.one.name page (eqb own own && in_range first count page) (it.one.kernel.pages own page) refl refl refl refl is
+          (sym (ap (λ e. e && in_range first count page) (eqb-self own))) (agree.pages page);
+      unread = agree.unread;
+      untold = agree.untold;
+      alone = agree.alone;
+      ranged = agree.ranged;
+    }
+cleared-by it first count start stop cpu true is low high unseen sound =
+    let agree = it.one.agree in
+    record {
+      sound = sound;
+      named = agree.named;
+      features = agree.features;
+      pages = λ page.
+          page-dropped it.one.space (dropped_space it.one.space first count start stop cpu true) first count it.one.name page (in_range first count page) (it.one.kernel.pages it.one.object.space page) refl refl refl refl refl (unseen page)
+          (agree.pages page);
+      unread = agree.unread;
+      untold = untold-remove it.one.name (telling it.one.kernel) it.key it.one.object.space first (first + count) it.one.space.object.events (record { message = Remove start stop; cpu = cpu }) (new-call (telling it.one.kernel) it.key it.is_new)
+          agree.untold (λ i. log.Remove (low i) (high i));
+      alone = agree.alone;
+      ranged = agree.ranged;
+    }
+
+pub dontneed-taken : (it : MapCall) (cpu addr len : ℕ) → dontneed_reply (memory it.one.space.host) addr len ≡ Done → AreUnseen it.one (addr / 4096) (pages_of len) →
+    Takes (madvised it.one.kernel it.key it.one.object.space addr len 4 answer.Done) (called it.one.space cpu (DontNeed addr len)) it.one.name
+dontneed-taken it cpu addr len is unseen =
+    let first = addr / 4096 in
+    let count = pages_of len in
+    let w = is_watched it.one.space.object first count in
+    let whole = dontneed_done (memory it.one.space.host) addr len (sym is) in
+    let new : called it.one.space cpu (DontNeed addr len) ≡ dropped_space it.one.space first count addr (addr + 4096 * count) cpu w = by-reply it.one.space cpu (DontNeed addr len) Done is in
+    let sound = subst IsSoundSpace new (IsSoundSpace-called it.one.space cpu (DontNeed addr len) refl it.one.agree.sound) in
+    record {
+      kernel = clearing it.one.kernel it.key it.one.object.space first count;
+      object = it.one.object;
+      taken = refl;
+      agree = subst (λ s. Agree s (clearing it.one.kernel it.key it.one.object.space first count) it.one.name it.one.object) (sym new)
+          (subst (λ told. Agree (dropped_space it.one.space first count addr (addr + 4096 * count) cpu w) (clearing_by it.one.kernel it.key it.one.object.space first count told) it.one.name it.one.object)
+          (sym (remove-tells it first count w refl)) (cleared-by it first count addr (addr + 4096 * count) cpu w refl (starts addr whole) (ends addr count whole) unseen sound));
+    }
+  where
+    starts : (addr : ℕ) → addr % 4096 ≡ 0 → addr ≡ 4096 * (addr / 4096)
+    starts addr whole = omega (arith, whole)
+
+    ends : (addr count : ℕ) → addr % 4096 ≡ 0 → addr + 4096 * count ≡ 4096 * (addr / 4096 + count)
+    ends addr count whole = omega (arith, whole)
+
+-- The pages are cleared
+
+page-emptied : (space : Space) (name page : ℕ) (b : Bool) (found : Option Page) → IsSoundSpace space → (b ≡ true → contains_key space.host.bytes page ≡ false) → AgreesAt space name page found →
+    AgreesAt space name page (cond b (page_with (cleared_page Missing) found) found)
+page-emptied space name page true None sound gone agrees = agrees
+page-emptied space name page true (Some one) sound gone agrees =
+    record {
+      object = agrees.object;
+      missing = agrees.missing;
+      protect = agrees.protect;
+      registered = agrees.registered;
+      absent = λ h. gone refl;
+      present = λ h. absurd (never one.missing h);
+      guarded = λ h. absurd (false≢true (sym (gone refl) ∙ sound.present page h));
+    }
+  where
+    never : (missing : Bool) → is_present (known_as missing Missing) ≡ true → ⊥
+    never true h = false≢true h
+    never false h = false≢true h
+page-emptied space name page false found sound gone agrees = agrees
+
+-- a page of the space that is cleared, or of another one
+same-space : (pages : ℕ → ℕ → Option Page) (space own page : ℕ) (inside b : Bool) → eqb space own ≡ b →
+    cond (b && inside) (page_with (cleared_page Missing) (pages space page)) (pages own page) ≡ cond (b && inside) (page_with (cleared_page Missing) (pages own page)) (pages own page)
+same-space pages space own page inside true is = ap (λ n. cond (true && inside) (page_with (cleared_page Missing) (pages n page)) (pages own page)) (eqb-true space own is)
+same-space pages space own page inside false is = refl
+
+pub clears-taken : (one : Counterparts) (key : ℕ) (span : Span) → span_of one.kernel.clears key ≡ Some span → is_told_all one.kernel key ≡ true → AreGone one span → Takes (clears one.kernel key) one.space one.name
+clears-taken one key span has told gone =
+    let agree = one.agree in
+    let untold = agree.untold in
+    let new = cleared_to (record one.kernel { clears = spans_without one.kernel.clears key }) span.space span.first (span.end - span.first) Missing in
+    record {
+      kernel = new;
+      object = one.object;
+      taken = ap (cleared_by one.kernel key) has ∙ ap (λ b. allowed b new) told;
+      agree = record {
+        sound = agree.sound;
+        named = agree.named;
+        features = agree.features;
+        pages = λ page.
+            subst (AgreesAt one.space one.name page) (sym (same-space one.kernel.pages span.space one.object.space page (in_range span.first (span.end - span.first) page) (eqb span.space one.object.space) refl))
+            (page-emptied one.space one.name page (eqb span.space one.object.space && in_range span.first (span.end - span.first) page) (one.kernel.pages one.object.space page) agree.sound (gone page) (agree.pages page));
+        unread = agree.unread;
+        untold = record { same = untold.same; once = untold.once; ranks = untold.ranks; own = untold.own; tells = untold.tells; none_queued = untold.none_queued };
+        alone = agree.alone;
+        ranged = agree.ranged;
+      };
+    }

@@ -1,0 +1,189 @@
+-- The log of the example, step by step.
+use Rattle.std.proofs.Common.{◌≡◌, ℕ, ◌+◌, ◌||◌, Bool, true, false, cond, Option, Some, None, List, [], ◌∷◌, ◌++◌, length, refl, sym, ap, subst, ◌∙◌, arith}
+use Rattle.std.specs.Prelude.{IsOk, Ok, is_some}
+use Rattle.std.specs.Ordering.{nat_cmp}
+use Rattle.std.specs.FinMap as finmap
+use Rattle.std.specs.FinMap.{contains_key, get, get-empty}
+use Rattle.std.specs.FinSet as finset
+use Rattle.mig_base.specs.declared.Prot.{Prot}
+use Rattle.mig_base.specs.declared.Prot.TheVariants.{ReadWrite}
+use Rattle.mig_base.specs.declared.Run.{Run}
+use Rattle.mig_base.specs.declared.effect.Effect.{Effect}
+use Rattle.mig_base.specs.declared.schedule.Step.{Step}
+use Rattle.mig_base.specs.Bits.{is_one}
+use Rattle.mig_base.specs.PageSets.{in_runs}
+use Rattle.mig_base.specs.Ranges.{in_range}
+use Rattle.mig_base.proofs.PageLemmas.{get-set_range}
+use Rattle.mig_model.specs.Handlers.{AreRunsOf}
+use Rattle.mig_model.specs.Ioctls.{event_features}
+use Rattle.mig_model.specs.Lengths.{text_len}
+use Rattle.mig_model.specs.Migration.{World, answer, first_world, made, next, next_by, outcome, outcome_by}
+use Rattle.mig_model.specs.Promises.{AreAccepted, IsReached}
+use Rattle.mig_model.specs.Wire.{Frame}
+use Rattle.mig_model.proofs.steps.ReachedLemmas.{reached-next}
+use Rattle.mig_base.specs.declared.message.Message.{Message}
+use Rattle.mig_model.specs.Ioctls.{all_features}
+use Rattle.uffd_log.specs.declared.call.Call.TheVariants as call
+use Rattle.uffd_log.specs.declared.call.Message.TheVariants.{Fault}
+use Rattle.uffd_log.specs.declared.line.Answer.TheVariants.{Value}
+use Rattle.kernel_rules.specs.Ioctls.{has_calls, is_offer}
+use Rattle.kernel_laws.specs.Example.{IsOfDestination, its_calls, its_descriptor}
+use Rattle.kernel_laws.specs.Logs.{Arrival, Ended, HaveNoMapCalls, Node, answered, arrived, destination_calls, read_call, destination, first_calls, lines_of_calls, log_of, whole_log}
+use Rattle.kernel_laws.proofs.ExampleWorlds.{carried, discard_frame, eighth-step, eleventh-step, fifth-step, first-step, fourth-step, loading, mapping, ninth-step, owed, package_frame, retried, second-step, seventh-step, sixth-step, stored, storing, tenth-step, third-step, thirteenth-step, twelfth-step, w1, w2, w3, w4, w5, w6, w7, w8, w9, w10, w11, w12, w13}
+
+-- A step that is made
+
+is-next : (world new : World) (step : Step) (effect : Effect) → answer world step ≡ made effect new → next world step ≡ new
+unfolding next
+is-next world new step effect is = ap (next_by world) is
+
+is-outcome : (world new : World) (step : Step) (effect : Effect) → answer world step ≡ made effect new → outcome world step ≡ Ok effect
+unfolding outcome
+is-outcome world new step effect is = ap outcome_by is
+
+reached : (world new : World) (step : Step) (effect : Effect) → answer world step ≡ made effect new → IsReached world → IsReached new
+reached world new step effect is at = subst IsReached (is-next world new step effect is) (reached-next world step at)
+
+accepted : (world new : World) (step : Step) (steps : List Step) (effect : Effect) → answer world step ≡ made effect new → AreAccepted new steps → AreAccepted world (step ∷ steps)
+accepted world new step steps effect is rest =
+    (subst (λ r. IsOk r) (sym (is-outcome world new step effect is)) refl, subst (λ w. AreAccepted w steps) (sym (is-next world new step effect is)) rest)
+
+abbrev node : Node
+node = destination its_descriptor 0x20000
+
+logged : (key : ℕ) (world new : World) (step : Step) (steps : List Step) (effect : Effect) (calls : List Ended) → answer world step ≡ made effect new → node.calls world step ≡ calls →
+    log_of node key world (step ∷ steps) ≡ lines_of_calls key calls ++ log_of node (key + length calls) new steps
+logged key world new step steps effect calls is same =
+    (λ i. lines_of_calls key (same i) ++ log_of node (key + length (same i)) (is-next world new step effect is i) steps)
+
+-- The world in which the destination takes the Package
+
+at_package : IsReached w6
+at_package =
+    reached w5 w6 (Step.Deliver (text_len discard_frame)) _ sixth-step
+    (reached w4 w5 (Step.Deliver (text_len Frame.Advise)) _ fifth-step
+    (reached w3 w4 Step.Switch _ fourth-step
+    (reached w2 w3 Step.Start _ third-step
+    (reached w1 w2 (Step.Issue 0 storing) _ second-step
+    (reached (first_world 1) w1 (Step.Issue 0 mapping) _ first-step (record { cpus = 1; epoch = 0; rounds = 0; steps = []; is = refl }))))))
+
+abbrev its_runs : List Run
+its_runs = record { first = 16; count = 1 } ∷ []
+
+one-run : (inside : Bool) (o : Option Prot) → o ≡ None → (inside || false) ≡ is_some (cond inside (Some ReadWrite) o)
+one-run true o none = refl
+one-run false o none = sym (ap is_some none)
+
+are-runs : AreRunsOf stored.areas its_runs
+are-runs =
+    record {
+      some = (omega arith, tt);
+      pages = λ page. one-run (in_range 16 1 page) (get (finmap.empty {K = ℕ} {X = Prot} {R = nat_cmp}) page) (get-empty nat_cmp page) ∙ ap is_some (sym (get-set_range finmap.empty 16 1 ReadWrite page));
+    }
+
+it-runs : next w6 (Step.Deliver (text_len package_frame)) ≡ w7
+it-runs = is-next w6 w7 (Step.Deliver (text_len package_frame)) (Effect.TookPackage (finset.len owed)) seventh-step
+
+offer-is : is_offer all_features 0x8000000000000003 ≡ true
+unfolding is_one
+offer-is = refl
+
+calls-are : has_calls 0xc ≡ true
+unfolding is_one
+calls-are = refl
+
+abbrev fetched : Arrival
+fetched =
+    record {
+      world = w6;
+      n = text_len package_frame;
+      count = finset.len owed;
+      reached = at_package;
+      is = is-outcome w6 w7 (Step.Deliver (text_len package_frame)) (Effect.TookPackage (finset.len owed)) seventh-step;
+      areas = its_runs;
+      are = subst (λ (w : World). AreRunsOf w.destination.guest.space.host.areas (record { first = 16; count = 1 } ∷ [])) (sym it-runs) are-runs;
+      offer = 0x8000000000000003;
+      offers = offer-is;
+      calls = 0xc;
+      has = calls-are;
+      on = its_descriptor;
+      from = 0x20000;
+      source = refl;
+    }
+
+-- the steps from then on, and those after each of them
+abbrev from_retry : List Step
+from_retry = Step.Retry 0 ∷ []
+
+abbrev from_install : List Step
+from_install = Step.Install ∷ from_retry
+
+abbrev from_delivery : List Step
+from_delivery = Step.Deliver (text_len carried) ∷ from_install
+
+abbrev from_push : List Step
+from_push = Step.Push (record { epoch = 1; page = 16 }) ∷ from_delivery
+
+abbrev from_act : List Step
+from_act = Step.DestAct ∷ from_push
+
+abbrev from_read : List Step
+from_read = Step.DestRead ∷ from_act
+
+abbrev its_steps : List Step
+its_steps = Step.Issue 0 loading ∷ from_read
+
+-- the calls of the steps, by what they return
+
+abbrev reads : Ended
+reads = record { call = call.Read its_descriptor None; out = record { answer = Value 1; messages = Fault 0x10000 0 0 ∷ []; runs = [] } }
+
+abbrev copies : Ended
+copies = answered (call.Copy its_descriptor 0x10000 0x20000 4096 0) (Value 4096)
+
+no_thread_ids : is_one event_features 8 ≡ false
+unfolding is_one
+no_thread_ids = refl
+
+calls-read : node.calls w8 Step.DestRead ≡ reads ∷ []
+calls-read =
+    ap (destination_calls its_descriptor 0x20000 w8 Step.DestRead) (is-outcome w8 w9 Step.DestRead (Effect.ReadFault 0x10000 false) ninth-step)
+    ∙ ap (λ b. read_call its_descriptor (Some (record { message = Message.PageFault 0x10000 false false (cond b 1 0); cpu = 0 }))) no_thread_ids
+
+calls-act : node.calls w9 Step.DestAct ≡ []
+calls-act = ap (destination_calls its_descriptor 0x20000 w9 Step.DestAct) (is-outcome w9 w10 Step.DestAct (Effect.Requested 0x10000 0x10000) tenth-step)
+
+calls-install : node.calls w12 Step.Install ≡ copies ∷ []
+calls-install = ap (destination_calls its_descriptor 0x20000 w12 Step.Install) (is-outcome w12 w13 Step.Install (Effect.Installed 0x10000 0x10000) thirteenth-step)
+
+its-log : log_of node 3 w7 its_steps ≡ lines_of_calls 3 (reads ∷ copies ∷ [])
+its-log =
+    logged 3 w7 w8 (Step.Issue 0 loading) from_read (Effect.Asleep 0) [] eighth-step refl
+    ∙ logged 3 w8 w9 Step.DestRead from_act (Effect.ReadFault 0x10000 false) (reads ∷ []) ninth-step calls-read
+    ∙ ap (λ l. lines_of_calls 3 (reads ∷ []) ++ l)
+    (logged 4 w9 w10 Step.DestAct from_push (Effect.Requested 0x10000 0x10000) [] tenth-step calls-act
+    ∙ logged 4 w10 w11 (Step.Push (record { epoch = 1; page = 16 })) from_delivery _ [] eleventh-step refl
+    ∙ logged 4 w11 w12 (Step.Deliver (text_len carried)) from_install _ [] twelfth-step refl
+    ∙ logged 4 w12 w13 Step.Install from_retry (Effect.Installed 0x10000 0x10000) (copies ∷ []) thirteenth-step calls-install)
+
+its-whole : whole_log fetched its_steps ≡ lines_of_calls 0 its_calls
+its-whole = ap (λ (w : World). lines_of_calls 0 (first_calls fetched) ++ log_of node 3 w its_steps) it-runs ∙ ap (λ l. lines_of_calls 0 (first_calls fetched) ++ l) its-log
+
+are-accepted : AreAccepted w7 its_steps
+are-accepted =
+    accepted w7 w8 (Step.Issue 0 loading) from_read (Effect.Asleep 0) eighth-step
+    (accepted w8 w9 Step.DestRead from_act (Effect.ReadFault 0x10000 false) ninth-step
+    (accepted w9 w10 Step.DestAct from_push (Effect.Requested 0x10000 0x10000) tenth-step
+    (accepted w10 w11 (Step.Push (record { epoch = 1; page = 16 })) from_delivery _ eleventh-step
+    (accepted w11 w12 (Step.Deliver (text_len carried)) from_install _ twelfth-step
+    (accepted w12 w13 Step.Install from_retry (Effect.Installed 0x10000 0x10000) thirteenth-step (retried, tt))))))
+
+pub its : IsOfDestination (lines_of_calls 0 its_calls)
+its =
+    record {
+      it = fetched;
+      steps = its_steps;
+      no_map_calls = (refl, (tt, (tt, (tt, (tt, (tt, (tt, tt)))))));
+      accepted = subst (λ w. AreAccepted w its_steps) (sym it-runs) are-accepted;
+      is = its-whole;
+    }

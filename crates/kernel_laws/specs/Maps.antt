@@ -1,0 +1,104 @@
+-- Map calls of a guest that unmap or clear pages.
+use Rattle.std.specs.Prelude.{◌≡◌, ℕ, ◌-◌, ◌/◌, ◌==◌, ◌&&◌, not, is_some, Option, Some, None, Bool, true, false}
+use Rattle.std.specs.FinMap.{contains_key}
+use Rattle.std.specs.List.{list_any}
+use Rattle.mig_base.specs.declared.TheConstants.{PAGE_SIZE}
+use Rattle.mig_base.specs.declared.Prot.{Prot}
+use Rattle.mig_base.specs.declared.command.Command.{Command}
+use Rattle.mig_base.specs.declared.command.Command.TheVariants.{Mmap}
+use Rattle.mig_base.specs.declared.command.Errno.{Errno}
+use Rattle.mig_base.specs.declared.command.Place.{Place}
+use Rattle.mig_base.specs.declared.command.Reply.{Reply}
+use Rattle.mig_base.specs.Flat.{Memory, mmap_reply}
+use Rattle.mig_base.specs.Ranges.{in_range, pages_of}
+use Rattle.mig_model.specs.Host.{memory}
+use Rattle.mig_model.specs.Ioctls.{has_events}
+use Rattle.mig_model.specs.Space.{called}
+use Rattle.uffd_log.specs.declared.line.Answer.{Answer}
+use Rattle.uffd_log.specs.declared.line.Answer.TheVariants.{Done, Failed}
+use Rattle.kernel_rules.specs.Ioctls.{span_of}
+use Rattle.kernel_rules.specs.MapCalls.{is_placed, is_told_all, madvised, mmapped, munmapped}
+use Rattle.kernel_rules.specs.Pages.{is_present}
+use Rattle.kernel_rules.specs.State.{Kernel, page_is}
+use Rattle.kernel_rules.specs.declared.calling.Span.{Span}
+use Rattle.kernel_rules.specs.declared.calling.Untold.{Untold}
+use Rattle.kernel_rules.specs.declared.known.Page.{Page}
+use Rattle.kernel_laws.specs.Agreement.{Counterparts, Takes, number_of}
+
+-- whether no call of this number is under way, or has anything to tell
+abbrev pub is_new_call : Kernel → ℕ → Bool
+is_new_call kernel key =
+    not (list_any (λ other. other == key) kernel.calls) && not (list_any (λ (one : Untold). one.key == key) kernel.events) && not (is_some (span_of kernel.untold key))
+
+-- a thread of the space that an object watches begins a map call, by its number. The object is enabled, and asked for the three events
+pub record MapCall : Type 0 where
+  pub one : Counterparts
+  pub key : ℕ
+  pub is_new : is_new_call one.kernel key ≡ true
+  pub enabled : one.space.object.enabled ≡ true
+  pub asked : has_events one.space.object ≡ true
+
+-- the rules may take a call, the model makes it, and both agree afterwards
+abbrev pub Follow : MapCall → ℕ → Command → Option Kernel → Type 0
+Follow it cpu command rule = Takes rule (called it.one.space cpu command) it.one.name
+
+-- the answer of a refused call
+abbrev pub failed : Errno → Answer
+failed errno = Failed (number_of errno) None
+
+-- the flat memory of the guest
+abbrev pub flat : MapCall → Memory
+flat it = memory it.one.space.host
+
+-- munmap(2) of a range, with an answer
+abbrev pub unmaps : MapCall → (addr len : ℕ) → Answer → Option Kernel
+unmaps it addr len answer = munmapped it.one.kernel it.key it.one.object.space addr len answer
+
+-- what an mmap(2) asks for: of the model a place, of a kernel an address and flags
+pub record Mapping : Type 0 where
+  pub len : ℕ
+  pub prot : Prot
+  pub place : Place
+  pub addr : ℕ
+  pub flags : ℕ
+
+-- the command of the model
+abbrev pub command_of : Mapping → Command
+command_of made = Mmap made.len made.prot made.place
+
+-- the reply of the flat memory
+abbrev pub reply_of : MapCall → Mapping → Reply
+reply_of it made = mmap_reply (flat it) made.len made.prot made.place
+
+-- a fixed mapping is where it was to be
+abbrev pub IsPlaced : Mapping → ℕ → Type 0
+IsPlaced made start = is_placed made.addr made.flags start ≡ true
+
+-- mmap(2), with an answer
+abbrev pub maps : MapCall → Mapping → Answer → Option Kernel
+maps it made answer = mmapped it.one.kernel it.key it.one.object.space made.addr made.len made.flags answer
+
+-- a MADV_DONTNEED that succeeds
+abbrev pub discards : MapCall → (addr len : ℕ) → Option Kernel
+discards it addr len = madvised it.one.kernel it.key it.one.object.space addr len 4 Done
+
+-- no page of a range is known to be present: the model has a MADV_DONTNEED clear its pages at once, a kernel once the REMOVE is read
+abbrev pub AreUnseen : Counterparts → (first count : ℕ) → Type 0
+AreUnseen one first count =
+    (page : ℕ) → in_range first count page ≡ true → page_is (λ (found : Page). is_present found.presence) (one.kernel.pages one.object.space page) ≡ false
+
+-- the same of the pages of a range of bytes
+abbrev pub IsUnseen : MapCall → (addr len : ℕ) → Type 0
+IsUnseen it addr len = AreUnseen it.one (addr / PAGE_SIZE) (pages_of len)
+
+-- the pages that a call is to clear are missing
+abbrev pub AreGone : Counterparts → Span → Type 0
+AreGone one span =
+    (page : ℕ) → (span.space == one.object.space && in_range span.first (span.end - span.first) page) ≡ true → contains_key one.space.host.bytes page ≡ false
+
+-- a call may clear its pages: it has told all, and they are missing
+pub record MayClear (one : Counterparts) (key : ℕ) : Type 0 where
+  pub span : Span
+  pub due : span_of one.kernel.clears key ≡ Some span
+  pub told : is_told_all one.kernel key ≡ true
+  pub gone : AreGone one span
