@@ -8,10 +8,10 @@ python3 bench/check/release.py --write       makes it: of crates/postmig/out/pos
 python3 bench/check/release.py --sources     whether it is of these sources, and unpacks to what its checksums say
 python3 bench/check/release.py --check       the same, and whether the proved builds are the programs of the release, byte by
                                        byte; so with the library, if dist/ has one that was built here. Another kit than
-                                       that of the release may give other bytes, which is said
+                                       the one that built it may give other bytes, which is said
 
 release/ has the programs and the library, packed, the checksums of their sources (./postmig sources) and those of all
-files, and the line of `rt version` of the kit that built both programs.
+files, and for each program and the library the line of `rt version` of the kit that built it.
 """
 
 import argparse
@@ -72,7 +72,12 @@ def is_built(crate):
 
 def kit():
     """The line that names the kit which is here."""
-    return subprocess.run(["rt", "version"], check=True, capture_output=True, text=True).stdout
+    return subprocess.run(["rt", "version"], check=True, capture_output=True, text=True).stdout.strip()
+
+
+def kits():
+    """Of each program of the release, and of the library, the line that names the kit which built it."""
+    return dict(line.split(": ", 1) for line in KIT.read_text().splitlines())
 
 
 def is_of_these_sources(crate):
@@ -101,16 +106,16 @@ def packed(text):
 
 
 def library_parts():
-    """The files of the library: those that were built in dist/, or those of the release if they are of these sources;
-    else it is built."""
+    """The files of the library, and whether they were built here. dist/ has them then; the release has them if it is of
+    these sources; else the library is built."""
     # (a library of the release counts as proved, and need not be unpacked)
     is_built = sources("postmig_c")[1] and all((DIST / name).is_file() for name in PARTS)
     if not is_built and LIBRARY.is_file() and is_of_these_sources("postmig_c"):
         with tarfile.open(LIBRARY) as tar:
-            return {it.name: tar.extractfile(it).read() for it in tar}
+            return {it.name: tar.extractfile(it).read() for it in tar}, False
     if not is_built:
         subprocess.run([page.TOP / "postmig", "library", "--build"], check=True)
-    return {name: (DIST / name).read_bytes() for name in PARTS}
+    return {name: (DIST / name).read_bytes() for name in PARTS}, True
 
 
 def program(name):
@@ -124,7 +129,8 @@ def program(name):
 
 
 def write():
-    programs, parts = {name: program(name) for name in PROGRAMS}, library_parts()
+    programs = {name: program(name) for name in PROGRAMS}
+    parts, is_library_built = library_parts()
     FOLDER.mkdir(exist_ok=True)
     files = {**{packed_file(name): packed(text) for name, text in programs.items()}, LIBRARY: packed(archive(parts))}
     for file, content in files.items():
@@ -133,8 +139,9 @@ def write():
     SUMS.write_text(sums({**programs, **parts, **{file.name: content for file, content in files.items()}}))
     for crate, file in SOURCES.items():
         file.write_text(sources(crate)[0] + "\n")
-    if all(map(is_built, PROGRAMS.values())):
-        KIT.write_text(kit())
+    built = [name for name, crate in PROGRAMS.items() if is_built(crate)] + ["libpostmig"] * is_library_built
+    told = {**(kits() if KIT.is_file() else {}), **{name: kit() for name in built}}
+    KIT.write_text("".join(f"{name}: {line}\n" for name, line in told.items()))
 
 
 def unpacked():
@@ -162,15 +169,15 @@ def look_at_sources():
     return files
 
 
-def compare(what, is_same):
+def compare(name, what, is_same):
     """Says whether what was built is as in the release. A build by another kit may have other bytes."""
+    told = kits()[name]
     if is_same:
         print(f"release: {what}, as built")
-    elif KIT.read_text() == kit():
+    elif told == kit():
         sys.exit(f"release: the build of {what} has other bytes: {RENEW}")
     else:
-        told, here = (it.split()[0] for it in (KIT.read_text(), kit()))
-        print(f"release: {what}: {told} built it, and {here}, which is here, gives other bytes")
+        print(f"release: {what}: {told.split()[0]} built it, and {kit().split()[0]}, which is here, gives other bytes")
 
 
 def check():
@@ -180,9 +187,9 @@ def check():
             sys.exit(
                 f"release: there is no proved build of {name} to compare it with: rt ci or ./postmig prove makes one"
             )
-        compare(f"{name}, {len(files[name]):,} bytes", built_file(crate).read_bytes() == files[name])
+        compare(name, f"{name}, {len(files[name]):,} bytes", built_file(crate).read_bytes() == files[name])
     if sources("postmig_c")[1]:
-        compare("the library of dist/", all((DIST / name).read_bytes() == files[name] for name in PARTS))
+        compare("libpostmig", "the library of dist/", all((DIST / name).read_bytes() == files[name] for name in PARTS))
 
 
 def main():
