@@ -39,7 +39,7 @@ use Rattle.kernel_rules.specs.Faults.{waits}
 use Rattle.kernel_laws.specs.Agreement.{Counterparts}
 use Rattle.kernel_laws.specs.Logs.{HaveNoMapCalls, IsLogged, IsNoMapCall, IsQuiet, Running, space_after, act_call, destination, destination_calls, install_call, lines_of_calls, log_of, read_call}
 use Rattle.kernel_laws.proofs.Followed.{followed-copy, followed-wake, followed-zeropage, has-copy}
-use Rattle.kernel_laws.proofs.LogRuns.{AreAll, accessed-logged, by-result, copy-logged, every-logged, read-logged, stays, wake-logged, zeropage-logged}
+use Rattle.kernel_laws.proofs.LogRuns.{AreAll, accessed-logged, by-result, copy-logged, every-logged, no_thread_ids, read-logged, stays, wake-logged, zeropage-logged}
 
 -- DestAct
 acted-space : (on : Descriptor) (act : Act) (node : Destination) (page addr : ℕ) → act_call on (act_effect act addr) ≡ [] → (destination_acted_by act node page).guest.space ≡ node.guest.space
@@ -145,10 +145,6 @@ urgently-delivered world n =
     ((λ sent rest first short. refl), (λ sent rest first full ran up. urgent-guest world.destination sent.frame))
 
 -- Commands
-
-no_thread_ids : is_one event_features 8 ≡ false
-unfolding is_one
-no_thread_ids = refl
 
 command-space : (ran : Bool) (world : World) (cpu : ℕ) (command : Command) → ran ≡ true → is_access command ≡ true →
     (with_guest_by ran world (tried (is_access command) (guest_by ran world.source.guest world.destination.guest) cpu command)).destination.guest.space ≡ accessed world.destination.guest.space cpu command

@@ -53,7 +53,7 @@ same-head x y xs ys is = same_Some x y (ap head_of is)
 same-tail : {X : Type 0} (x y : X) (xs ys : List X) → x ∷ xs ≡ y ∷ ys → xs ≡ ys
 same-tail x y xs ys is = ap tail_of is
 
-turned : (a b : ℕ) → eqb a b ≡ false → eqb b a ≡ false
+pub turned : (a b : ℕ) → eqb a b ≡ false → eqb b a ≡ false
 turned a b h = grind (arith, nat_tests)
 
 any-one : {X : Type 0} (p : X → Bool) (x : X) (rest : Bool) (kept : List X) (b : Bool) → p x ≡ b → rest ≡ not (is_empty kept) → (p x || rest) ≡ not (is_empty (cond b (x ∷ kept) kept))

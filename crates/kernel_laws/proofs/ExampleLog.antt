@@ -29,6 +29,7 @@ use Rattle.uffd_log.specs.declared.line.Answer.TheVariants.{Value}
 use Rattle.kernel_rules.specs.Ioctls.{has_calls, is_offer}
 use Rattle.kernel_laws.specs.Example.{IsOfDestination, its_calls, its_descriptor}
 use Rattle.kernel_laws.specs.Logs.{Arrival, Ended, HaveNoMapCalls, Node, answered, arrived, destination_calls, read_call, destination, first_calls, lines_of_calls, log_of, whole_log}
+use Rattle.kernel_laws.proofs.LogRuns.{no_thread_ids}
 use Rattle.kernel_laws.proofs.ExampleWorlds.{carried, discard_frame, eighth-step, eleventh-step, fifth-step, first-step, fourth-step, loading, mapping, ninth-step, owed, package_frame, retried, second-step, seventh-step, sixth-step, stored, storing, tenth-step, third-step, thirteenth-step, twelfth-step, w1, w2, w3, w4, w5, w6, w7, w8, w9, w10, w11, w12, w13}
 
 -- A step that is made
@@ -140,10 +141,6 @@ reads = record { call = call.Read its_descriptor None; out = record { answer = V
 
 abbrev copies : Ended
 copies = answered (call.Copy its_descriptor 0x10000 0x20000 4096 0) (Value 4096)
-
-no_thread_ids : is_one event_features 8 ≡ false
-unfolding is_one
-no_thread_ids = refl
 
 calls-read : node.calls w8 Step.DestRead ≡ reads ∷ []
 calls-read =

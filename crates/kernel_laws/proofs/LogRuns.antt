@@ -289,7 +289,7 @@ logged-made stops one cpu thread command Missing quiet it =
 logged-made stops one cpu thread command Protected quiet it =
     logged-seen stops one thread (page_of command) (fault_flags true true) (waits_fault one.space.object.faults (4096 * page_of command) true) (accessed_by Protected one.space cpu command) quiet it
 
-no_thread_ids : is_one event_features 8 ≡ false
+pub no_thread_ids : is_one event_features 8 ≡ false
 unfolding is_one
 no_thread_ids = refl
 

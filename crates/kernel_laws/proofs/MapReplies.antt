@@ -1,6 +1,6 @@
 -- munmap(2) and mmap(2) of a guest, by what the flat memory replies.
 use Rattle.std.proofs.lemmas.Bool.Decides.{nat_tests}
-use Rattle.std.proofs.lemmas.Bool.{false≢true}
+use Rattle.std.proofs.lemmas.Bool.{and_from, false≢true}
 use Rattle.std.proofs.Common.{◌≡◌, ◌≢◌, ℕ, ◌<◌, ◌≤◌, ◌+◌, ◌*◌, ◌/◌, ◌%◌, ◌^◌, ◌&&◌, Bool, true, false, eqb, ltb, Option, Some, None, arith, refl, sym, ap, subst, ◌∙◌}
 use Rattle.std.specs.Prelude.{if◌then◌else◌}
 use Rattle.std.specs.FinMap.{FinMap}
@@ -43,9 +43,6 @@ by-reply space cpu command reply is = ap (called_as space cpu command) is
 
 -- A range that is unmapped or mapped anew
 
-both : (a b : Bool) → a ≡ true → b ≡ true → (a && b) ≡ true
-both a b ha hb = grind (arith, nat_tests)
-
 below : (start len : ℕ) → start % 4096 ≡ 0 → start + 4096 * pages_of len ≤ HIGH → is_mappable (start / 4096) (pages_of len) ≡ true
 below start len whole high = less (start / 4096 + pages_of len) (omega (arith, whole, high)) where
   less : (n : ℕ) → n < 2 ^ 52 → ltb n (2 ^ 52) ≡ true
@@ -62,7 +59,7 @@ takes-range it cpu start len command reply is whole high some areas same sound =
     record {
       kernel = unmapped it.one.kernel it.key it.one.object.space first count;
       object = it.one.object;
-      taken = ap (λ b. allowed b (unmapped it.one.kernel it.key it.one.object.space first count)) (both (has_bytes len) (is_mappable first count) some (below start len whole high));
+      taken = ap (λ b. allowed b (unmapped it.one.kernel it.key it.one.object.space first count)) (and_from (has_bytes len) (is_mappable first count) some (below start len whole high));
       agree = subst (λ s. Agree s (unmapped it.one.kernel it.key it.one.object.space first count) it.one.name it.one.object) (sym new)
           (unmapped-agree it areas first count start (start + 4096 * count) cpu (starts start whole) (ends start count whole) (subst IsSoundSpace new sound));
     }

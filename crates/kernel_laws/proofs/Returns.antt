@@ -16,7 +16,7 @@ use Rattle.kernel_rules.specs.Ioctls.{span_of, tells_object}
 use Rattle.kernel_rules.specs.MapCalls.{has_events, is_told_all, may_return, numbers_without, returned, spans_without, tells_anybody}
 use Rattle.kernel_rules.specs.State.{Kernel}
 use Rattle.kernel_laws.specs.Agreement.{Agree, AreUntold, Counterparts, are_once, messages_of, removes, telling}
-use Rattle.kernel_laws.proofs.EventReads.{none-filter, spans-gone, spans-left, tells-anybody}
+use Rattle.kernel_laws.proofs.EventReads.{none-filter, spans-gone, spans-left, tells-anybody, turned}
 use Rattle.kernel_laws.proofs.Unmaps.{filtered-none}
 
 abbrev texts : List Untold → List LogMessage
@@ -45,9 +45,6 @@ one-less kernel now key call calls kept true is none same rest =
     rest ∙ sym (flat_map-cons (messages_of kernel) call calls ∙ ap (λ l. l ++ flat_map (messages_of kernel) calls) (ap (messages_of kernel) (eqb-true call key is) ∙ none))
 one-less kernel now key call calls kept false is none same rest =
     flat_map-cons (messages_of now) call kept ∙ (λ i. same refl i ++ rest i) ∙ sym (flat_map-cons (messages_of kernel) call calls)
-
-turned : (a b : ℕ) → eqb a b ≡ false → eqb b a ≡ false
-turned a b h = grind (arith, nat_tests)
 
 all-told : (kernel now : Kernel) (key : ℕ) → messages_of kernel key ≡ [] → ((other : ℕ) → eqb key other ≡ false → messages_of now other ≡ messages_of kernel other) → (calls : List ℕ) →
     flat_map (messages_of now) (numbers_without calls key) ≡ flat_map (messages_of kernel) calls

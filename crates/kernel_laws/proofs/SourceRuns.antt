@@ -46,6 +46,7 @@ use Rattle.kernel_rules.specs.Runs.{Leads, lines_of, world_with}
 use Rattle.kernel_rules.specs.State.{Kernel, noted_if, of_object}
 use Rattle.kernel_laws.specs.Agreement.{Agree, Counterparts, telling}
 use Rattle.kernel_laws.specs.Logs.{AreNamed, HaveNoMapCalls, IsLogged, IsNoMapCall, IsQuiet, IsUnreleased, Watch, Watching, answered, at_rest, is_named, lines_of_calls, log_of, protect_call, read_call, register_calls, resolve_call, source, source_calls, space_after, unnamed}
+use Rattle.mig_base.proofs.SetSizes.{only_where}
 use Rattle.kernel_laws.proofs.FaultReads.{page-requeued, requeued, sound-requeued}
 use Rattle.kernel_laws.proofs.FirstCalls.{HaveAreas, registers-logged}
 use Rattle.kernel_laws.proofs.Followed.{followed-protect, followed-wake, followed-zeropage, no_error}
@@ -375,9 +376,6 @@ step-logged at key Step.Break unreleased access = node-unchanged at Step.Break (
 released-on : (world : World) (step : Step) → IsReached world → is_released world.source.phase ≡ true → is_released (next world step).source.phase ≡ true
 released-on world step reached released = complete-next world step (bounded-reached world reached).ready.kept released
 
-before : (now later : Bool) → (now ≡ true → later ≡ true) → later ≡ false → now ≡ false
-before now later stays is = grind (arith, nat_tests)
-
 -- a reached world whose source is not released
 abbrev pub IsKept : World → Type 0
 IsKept world = IsReached world × (is_released world.source.phase ≡ false)
@@ -385,7 +383,7 @@ IsKept world = IsReached world × (is_released world.source.phase ≡ false)
 unreleased-first : (world : World) (steps : List Step) → IsReached world → IsUnreleased world steps → is_released world.source.phase ≡ false
 unreleased-first world [] reached kept = kept
 unreleased-first world (step ∷ steps) reached kept =
-    before (is_released world.source.phase) (is_released (next world step).source.phase) (released-on world step reached) (unreleased-first (next world step) steps (reached-next world step reached) kept)
+    only_where (is_released world.source.phase) (is_released (next world step).source.phase) (released-on world step reached) (unreleased-first (next world step) steps (reached-next world step reached) kept)
 
 all-kept : (world : World) (steps : List Step) → IsReached world → IsUnreleased world steps → AreAll IsKept world steps
 all-kept world [] reached kept = (reached, kept)

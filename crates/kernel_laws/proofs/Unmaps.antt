@@ -40,8 +40,9 @@ use Rattle.kernel_rules.specs.Reads.{is_same_event}
 use Rattle.kernel_rules.specs.State.{Kernel, asked_for, page_is, some_page}
 use Rattle.kernel_laws.specs.Agreement.{Agree, AgreesAt, AreUntold, Counterparts, IsPage, are_once, has_page, have_ranks, is_of_another, message_of, messages_of, removes, telling}
 use Rattle.kernel_laws.specs.Maps.{MapCall, is_new_call}
+use Rattle.mig_base.proofs.SetSizes.{only_where}
 use Rattle.kernel_laws.proofs.Accesses.{asked}
-use Rattle.kernel_laws.proofs.EventReads.{same-rest}
+use Rattle.kernel_laws.proofs.EventReads.{same-rest, turned}
 use Rattle.kernel_laws.proofs.Events.{any-weaker}
 use Rattle.kernel_laws.proofs.Registers.{gone, kept, still-protected, was-registered}
 
@@ -151,13 +152,10 @@ some-watch kernel space first end name own (range ∷ ranges) some =
     first-name kernel space first end name range.object ranges (watches_in kernel space first end range) (own range) (still-one kernel space first end name own ranges)
     (λ none. some-watch kernel space first end name own ranges (sym (ap (λ b. b || list_any (watches_in kernel space first end) ranges) none) ∙ some))
 
-false-by : (b c : Bool) → (b ≡ true → c ≡ true) → c ≡ false → b ≡ false
-false-by b c h none = grind (arith, nat_tests)
-
 watchers : (one : Counterparts) (first count : ℕ) (w : Bool) → is_watched one.space.object first count ≡ w → objects_in one.kernel one.object.space first (first + count) ≡ cond w (one.name ∷ []) []
 watchers one first count false is =
     none-watch one.kernel one.object.space first (first + count) []
-    (λ range. false-by (watches_in one.kernel one.object.space first (first + count) range) (is_watched one.space.object first count)
+    (λ range. only_where (watches_in one.kernel one.object.space first (first + count) range) (is_watched one.space.object first count)
     (λ h. (watched-page one.space one.kernel one.name one.object first count range one.agree h).1) is)
     one.kernel.ranges
 watchers one first count true is =
@@ -195,9 +193,6 @@ pub remove-tells : (it : MapCall) (first count : ℕ) (w : Bool) → is_watched 
 remove-tells it first count w is = ap (filter (is_told it.one.kernel 3)) (watchers it.one first count w is) ∙ kept-told (is_told it.one.kernel 3) it.one.name w (tells-remove it)
 
 -- What is unread
-
-turned : (a b : ℕ) → eqb a b ≡ false → eqb b a ≡ false
-turned a b h = grind (arith, nat_tests)
 
 pub filtered-none : {X : Type 0} (p : X → Bool) (xs : List X) → list_any p xs ≡ false → filter p xs ≡ []
 filtered-none p [] none = refl
