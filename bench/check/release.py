@@ -160,6 +160,8 @@ def look_at_sources():
     for crate, file in SOURCES.items():
         if not is_of_these_sources(crate):
             sys.exit(f"release: {file.name} is of other sources: {RENEW}")
+    if lacking := [name for name in (*PROGRAMS, "libpostmig") if f"\n{name}: " not in "\n" + KIT.read_text()]:
+        sys.exit(f"release: kit does not say what built {lacking[0]}: {RENEW}")
     try:
         files = unpacked()
     except (OSError, EOFError, tarfile.TarError) as fault:
