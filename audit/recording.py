@@ -24,7 +24,7 @@ ELF = b"\x7fELF"
 PT_INTERP = 3
 TRACED = (
     "userfaultfd,ioctl,read,readv,poll,ppoll,mmap,munmap,mremap,madvise,close,close_range,dup,dup2,dup3,fcntl,"
-    "pidfd_getfd,recvmsg,clone,clone3,fork,vfork,execve,exit_group"
+    "pidfd_getfd,sendmsg,recvmsg,clone,clone3,fork,vfork,execve,exit_group"
 )
 STRACE = ["strace", "-f", "-ttt", "-T", "-y", "-xx", "-s", "65536", "-v", "-e", "trace=" + TRACED, "-e", "signal=none"]
 

@@ -69,9 +69,15 @@ def ok_on_a_present_page(calls, rng):
     calls.append(after(call, call))
 
 
-def installed_twice(calls, rng):
+def installed_again(calls, rng):
     call = rng.choice(installs(calls))
     calls.append(after(call, call, answer="EEXIST", values={"BYTES": -17}))
+
+
+def installed_twice_and_asleep(calls, rng):
+    call = of_a_fault(calls, rng)
+    calls.append(after(call, call, answer="EEXIST", values={"BYTES": -17}))
+    call.arguments["MODE"] = 1
 
 
 def wrong_length(calls, rng):
@@ -194,7 +200,8 @@ PLANTED = (
     ("qemu-push", install_left_out, "fault-not-resolved"),
     ("qemu-push", no_wake, "fault-not-resolved"),
     ("qemu-push", ok_on_a_present_page, "unexplained-answer"),
-    ("qemu-push", installed_twice, "put-twice"),
+    ("qemu-push", installed_again, "put-again"),
+    ("qemu-push", installed_twice_and_asleep, "put-twice"),
     ("qemu-push", wrong_length, "unexplained-answer"),
     ("qemu-push", exists_on_a_missing_page, "unexplained-answer"),
     ("qemu-push", not_registered, "unexplained-answer"),

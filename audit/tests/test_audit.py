@@ -24,7 +24,7 @@ FINDINGS = {
     "qemu-snapshot": set(),
     "qemu-strace": set(),
     "stress-ng": set(),
-    "live-handler": {"page-owed", "put-twice-woken", "present-before"},
+    "live-handler": {"page-owed", "put-again", "present-before"},
 }
 # What their kernel did otherwise than the model: docs/LINUX.md names these logs.
 DIFFERENCES = {

@@ -1,12 +1,15 @@
 """`audit/campaign`: its verdicts on one program that is right, and on one in which a fault is planted."""
 
+import os
+
 import common
 import test_record
 
 
 class Campaign(test_record.Kernel):
     def campaign(self, *options):
-        done = common.run("campaign", "--seeds", "1:1", *options)
+        named = os.environ.get("AUDIT_PROGRAM")
+        done = common.run("campaign", "--seeds", "1:1", *(["--program", named] if named else []), *options)
         return done.returncode, done.stdout + done.stderr
 
     def test_a_right_program(self):

@@ -34,7 +34,7 @@ ROWS = (
     ),
     (
         52,
-        ("steps to completion", "finish", 3),
+        ("steps to completion; all schedules", "finish schedules reachable", 3),
         ("scripts, transcripts and replies as text; pictures", "engine grammar report hosts diagram", 9),
     ),
     (52, ("a migration: both nodes, three wires, and its recovery", "world recovery", 12)),
@@ -50,11 +50,8 @@ ROWS = (
     ),
     (
         52,
-        (
-            "the machine and the flat memory: what is proved, in definitions and laws",
-            "mig_model mig_laws mig_base frame_texts",
-            12,
-        ),
+        ("the machine and the flat memory: definitions and laws", "mig_model mig_laws mig_base frame_texts", 7),
+        ("where the lines of an input end", "lines", 5),
     ),
 )
 WIDTH, COLUMN, COLUMNS, GAP, RISE, LETTER = 748, 60, 12, 12, 26, 7.0

@@ -43,11 +43,14 @@ for script in sorted(pathlib.Path(sys.argv[1]).glob("*.script")):
     equal(script.name, postmig.lint(text), b"")
     count += 1
 equal("the examples", count > 20, True)
-equal("lint", postmig.lint(b"strat\n"), b"-:1:1: `strat` is not the first word of a script line: did you mean `start`?\n")
+strat = b"-:1:1: `strat` is not the first word of a script line: did you mean `start`?\n"
+equal("lint", postmig.lint(b"strat\n"), strat)
 equal("reason", postmig.reason(b"start"), None)
 equal("explain", postmig.explain(b"0 load 0x10000 8 => done\n"), (False, b"wrong 0 expected segv unmapped\n  line 1, entry 0: 0 load 0x10000 8 => done\n  0x10000 was never mapped\n"))
 with postmig.World() as world, world.copy() as copy:
+    equal("a copy", (world.is_same(copy), world.is_same(world)), (True, True))
     copy.line(b"start")
+    equal("another world", (world.is_same(copy), copy.is_same(world)), (False, False))
     equal("would", (world.would(b"start"), copy.would(b"start"), copy.would(b"round")), (None, "Phase", None))
     equal("counts", (world.counts().phase, copy.counts().phase, copy.counts().epoch), (postmig.IDLE, postmig.PRECOPY, 1))
     equal("show", copy.show(postmig.WIRES).splitlines()[-1], b"wire 1: advise, epoch 1")

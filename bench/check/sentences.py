@@ -25,7 +25,7 @@ def unsaid(text, pattern, comment, skipped):
     above = ""
     for number, line in enumerate(text.splitlines(), 1):
         found = pattern.match(line)
-        if found and not line.startswith("pub mod ") and not above.startswith(comment):
+        if found and not line.startswith(("pub mod ", "pub use ")) and not above.startswith(comment):
             yield number, found[1]
         if not line.strip().startswith(skipped):
             above = line.strip()

@@ -1,18 +1,23 @@
 #!/usr/bin/env python3
-"""Writes the userfaultfd calls of the model's destination as a log, and has uffd-audit certify it: a kernel may have
-answered so.
+"""Writes the calls of the model's destination as a log, and has uffd-audit certify it: a kernel may have answered so.
 
 python3 bench/compare/logs.py [SEEDS] [--first SEED] [--profile P ..] [--source] [--keep FOLDER]
 
 `postmig run --steps` says which host call each step is. Those of the destination are the log of a handler, with the
-model's answers: the object's first calls, and then one call at a time. It must be certified, whatever is found of
-the handler, which a script may end in its middle, and differ from the model as kernel_laws says alone; how often it
-does is printed. The scripts are those of `postmig explore`, SEEDS of each profile (20), without map calls from `start`
-on: so far kernel_laws::a_destination_is_logged reaches. --source: logs of the source too, which names no thread, as a
-handler without UFFD_FEATURE_THREAD_ID (a processor of the model may have two faults unread, a thread of a kernel
-one). By kernel_laws::a_source_is_logged each has a run, but not all are certified: the search finds none for a fault
-of a protected page that is read after the protection went. The status is 3 where a log is not as it should be, and 6
-where there was none.
+model's answers: the object's first calls, and then one call at a time; between them are the map calls of its guest,
+each of which ends when its last message is read. It must be certified, whatever is found of the handler, which a
+script may end in its middle, and differ from the model as kernel_laws says alone. The scripts are those of `postmig
+explore`, SEEDS of each profile (20), with no map calls but mmap and munmap from `start` on: so far
+kernel_laws::a_destination_is_logged reaches. --source: logs of the source too, which names no thread, as a handler
+without UFFD_FEATURE_THREAD_ID (a processor of the model may have two faults unread, a thread of a kernel one).
+
+By kernel_laws each log has a run, but not all are certified: the search finds none for a fault that is read after a
+map call took its page away, or whose page lost its protection, nor where a map call makes pages anew that another one,
+which is still under way, has unmapped. These logs are counted, and no others may lack a run.
+
+It is printed how many logs have a run with each difference, which would fail if it were left out. Where a node has no
+such log, its difference is not needed, which fails too. The status is 3 where anything is not as it should be, and 6
+where there was no log.
 """
 
 import argparse
@@ -36,22 +41,51 @@ HEAD = "uffdlog 1\nrecorder model 1\nkernel - - -\npage 4096\nclock log\ncommand
 OFFER, CALLS = "0x14d 0x8000000000000003", {"1": "0x13c", "3": "0x17c"}
 FEATURES = {"source": "0x4d", "dest": "0x4c"}
 OBJECT, BUFFER = "1:5", 0x7F0000000000
-MAP_CALL = re.compile(r"cpu \d+ (mmap|munmap|mremap|dontneed)\b")
+MAP_CALL = re.compile(r"cpu (\d+) ((mmap|munmap|mremap|dontneed)\b.*)")
+FOLLOWED = ("mmap", "munmap")
+# The words of a script for a protection and a place, with what mmap(2) has for them.
+PROTECTIONS, PLACES = {"none": 0, "r": 1, "rw": 3}, {"": 0x22, "fixed": 0x32, "noreplace": 0x100022}
 # The status of a log that has nothing to judge: no message was read, and no page was put.
 NOTHING = 6
-# How the run of a node's log may differ from the model.
-MAY_DIFFER = {"dest": {"fault-on-its-way"}, "source": {"fault-on-its-way", "left-by-a-signal"}}
+# How the run of a log may differ from the model: kernel_laws, `is_late`.
+MAY_DIFFER = {"fault-on-its-way"}
+# What is counted of logs that the search does not find.
+NOT_FOUND = "logs for which no run was found"
+UNEXPLAINED = re.compile(r"^-:\d+: unexplained: (.*)$", re.M)
 DIFFERENCE = re.compile(r"^otherwise than the model: ([a-z-]+) (\d+) ", re.M)
 
 
+def ending(answer):
+    """How a map call ends in a log, by what the model writes of it."""
+    word, *rest = answer.split()
+    return {"done": "ok", "at": f"ok {' '.join(rest)}", "refused": " ".join(rest)}[word]
+
+
 class Log:
-    """The calls of the handler at one node."""
+    """The calls of the handler at one node, and the map calls of its guest."""
 
     def __init__(self, node):
-        self.node, self.lines, self.made, self.stores = node, [], 0, {}
+        self.node, self.lines, self.made, self.stores, self.calling = node, [], 0, {}, {}
 
-    def line(self, text):
-        self.lines.append(f"{len(self.lines) + 1} 1 1 {text}")
+    def line(self, text, thread=1):
+        self.lines.append(f"{len(self.lines) + 1} 1 {thread} {text}")
+
+    def map_call(self, cpu, text, answer):
+        """Of a processor, which is thread `cpu` + 2."""
+        if not self.lines:
+            self.open()
+        name, *words = text.split()
+        if name == "mmap":
+            place, addr = [*words[2:], "", "0"][:2]
+            words = [addr, words[0], str(PROTECTIONS[words[1]]), f"{PLACES[place]:#x}"]
+        self.made += 1
+        self.line(f"begin {self.made} {name} {' '.join(words)}", int(cpu) + 2)
+        self.calling[cpu] = self.made
+        if not answer.startswith("in call"):
+            self.returns(cpu, answer)
+
+    def returns(self, cpu, answer):
+        self.line(f"end {self.calling.pop(cpu)} {ending(answer)}", int(cpu) + 2)
 
     def call(self, text, answer="ok", message=None):
         self.made += 1
@@ -72,7 +106,10 @@ class Log:
         if name == "register":
             self.call(f"register {OBJECT} {' '.join(rest)}", f"ok {CALLS[rest[2]]}")
         elif name == "read":
-            self.call(f"read {OBJECT} 32", "ok 1", self.message(answer.split()[1:]))
+            message, _, last = answer.removeprefix("read ").partition(", cpu ")
+            self.call(f"read {OBJECT} 32", "ok 1", self.message(message.split()))
+            if last:
+                self.returns(*last.split(" ", 1))
         elif name == "copy":
             self.call(f"copy {OBJECT} {rest[0]} {BUFFER:#x} {PAGE} 0", f"ok {PAGE}")
         elif name == "zeropage":
@@ -85,7 +122,7 @@ class Log:
     def message(self, words):
         """As it is in a log. The model's fault is that of the first processor that sleeps on the page."""
         if words[0] != "fault":
-            raise ValueError(f"a message of a map call: {' '.join(words)}")
+            return " ".join(words)
         is_store = self.stores.pop(int(words[1], 16), False)
         return f"fault {words[1]} {is_store + 2 * (words[2] == 'write-protect')} 0"
 
@@ -98,7 +135,7 @@ def logs_of(script):
     """The logs of the nodes that make calls, from a script's lines and what `run --steps` prints of them."""
     ran = subprocess.run([POSTMIG, "run", "--steps"], input="\n".join(script) + "\n", capture_output=True, text=True,
                          check=True)
-    logs, host, last = {node: Log(node) for node in ("source", "dest")}, "source", {}
+    logs, host, last, started = {node: Log(node) for node in ("source", "dest")}, "source", {}, False
     orders = iter([line for line in script if line and line[0] != "#"])
     for line in ran.stdout.splitlines():
         if line.startswith("> "):
@@ -108,7 +145,10 @@ def logs_of(script):
         answer, order = line, next(orders)
         if answer.startswith("took package"):
             host = "dest"
-        words = order.split()
+        started |= answer.startswith("started")
+        words, called = order.split(), MAP_CALL.match(order)
+        if called and started and answer.startswith(f"cpu {called[1]} "):
+            logs[host].map_call(called[1], called[2], answer.split(" ", 2)[2])
         if words[0] == "cpu" and answer.startswith(f"cpu {words[1]} "):
             last[words[1]] = order
         if words[0] in ("cpu", "retry") and answer == f"cpu {words[1]} asleep":
@@ -116,23 +156,63 @@ def logs_of(script):
     return {node: HEAD + "\n".join(log.lines) + "\n" for node, log in logs.items() if log.lines}
 
 
-def without_maps(script):
-    """The lines but those with map calls, from `start` on."""
+def without_moves(script):
+    """The lines but those with map calls other than mmap and munmap, from `start` on."""
     start = script.index("start") if "start" in script else len(script)
-    return [line for number, line in enumerate(script) if number < start or not MAP_CALL.match(line)]
+    called = [MAP_CALL.match(line) for line in script[start:]]
+    return script[:start] + [line for line, it in zip(script[start:], called) if not it or it[3] in FOLLOWED]
+
+
+def is_late(lines, number):
+    """Whether a line of a log is the message of a fault whose page a map call has taken away, or, of a write-protect
+    fault, a call has unprotected."""
+    words = lines[number]
+    if words[3] != "message" or words[5] != "fault":
+        return False
+    addr, protected = int(words[6], 16), int(words[7]) >= 2
+    for words in reversed(lines[:number]):
+        name = words[5] if words[3:4] == ["begin"] else None
+        if name in FOLLOWED or protected and name == "writeprotect":
+            start, length = words[6:8] if name in FOLLOWED else words[7:9]
+            if 0 <= addr - int(start, 0) < -(-int(length) // PAGE) * PAGE:
+                return name in FOLLOWED or words[9] == "0"
+    return False
+
+
+def is_overlapped(lines, number):
+    """Whether a line of a log ends a map call while another one is under way."""
+    under_way = set()
+    for words in lines[:number]:
+        if words[3:4] == ["begin"] and words[5] in FOLLOWED:
+            under_way.add(words[4])
+        elif words[3:4] == ["end"]:
+            under_way.discard(words[4])
+    return lines[number][4] in under_way and len(under_way) > 1
+
+
+def are_known(log, said):
+    """Whether the answers for which the audit has found no run are of a kind that it does not find: those of reads,
+    whose message is the line before the end, or first that of a map call, after which others may follow."""
+    lines = [line.split() for line in log.splitlines()]
+    ends = [int(end) - 1 for answer in UNEXPLAINED.findall(said) for end in re.findall(r"at line (\d+)", answer)]
+    return bool(ends) and (is_overlapped(lines, min(ends)) or all(is_late(lines, end - 1) for end in ends))
 
 
 def judge(name, script, nodes, keep):
-    """How many calls were certified in the logs of a script, by node, and how often a run differs from the model; and
-    which logs were not certified, or differ otherwise."""
+    """How many calls were certified in the logs of a script, by node, and how many runs have each difference; and which
+    logs were not certified, or differ otherwise."""
     found, wrong, logs = collections.Counter(), [], logs_of(script)
     for node in filter(logs.get, nodes):
         log = logs[node]
         ran = subprocess.run([POSTMIG, "audit", "--certified", "--explain"], input=log, capture_output=True, text=True)
         differs = dict(DIFFERENCE.findall(ran.stdout))
-        if "\ncertified" in f"\n{ran.stdout}" and differs.keys() <= MAY_DIFFER[node]:
-            found[f"calls at {node}"] += log.count(" begin ")
-            found.update({name: int(count) for name, count in differs.items()})
+        if "\ncertified" in f"\n{ran.stdout}" and differs.keys() <= MAY_DIFFER:
+            found[f"logs of {node}"] += 1
+            found[f"calls of {node}"] += log.count(" begin ")
+            found[f"map calls of {node}"] += len(re.findall(r" begin \d+ m(?:un)?map ", log))
+            found.update(f"with {name} at {node}" for name in differs)
+        elif are_known(log, ran.stdout):
+            found[NOT_FOUND] += 1
         elif ran.returncode != NOTHING:
             said = " | ".join(ran.stdout.splitlines()[-4:])
             wrong.append(f"{name}, {node}: status {ran.returncode}, {differs}, {said} {ran.stderr.strip()}")
@@ -156,14 +236,16 @@ def main():
         for seed in range(arguments.first, arguments.first + arguments.seeds):
             words = ["explore", "--profile", profile, "--seed", str(seed)]
             made = subprocess.run([POSTMIG, *words], capture_output=True, text=True, check=True)
-            scripts[f"{profile}-{seed}"] = without_maps(made.stdout.splitlines())
+            scripts[f"{profile}-{seed}"] = without_moves(made.stdout.splitlines())
     found, wrong = collections.Counter(), []
     with concurrent.futures.ThreadPoolExecutor(os.cpu_count()) as threads:
         for more, faults in threads.map(lambda one: judge(*one, nodes, arguments.keep), scripts.items()):
             found, wrong = found + more, wrong + faults
+    needed = [f"with {name} at {node}" for name in sorted(MAY_DIFFER) for node in nodes]
+    wrong += [f"no log {what}" for what in needed if not found[what]]
     print(*wrong, sep="\n", end="\n" * bool(wrong))
     counts = ", ".join(f"{name} {count}" for name, count in sorted(found.items()))
-    print(f"logs: {len(scripts)} scripts; certified: {counts or 'nothing'}; {len(wrong)} logs are otherwise")
+    print(f"logs: {len(scripts)} scripts; certified: {counts or 'nothing'}; {len(wrong)} faults")
     return 3 if wrong else 0 if found else NOTHING
 
 

@@ -61,8 +61,17 @@ static void agree(uint32_t status, const uint8_t *answer, size_t count)
     WANT(is(answer, count, (const char *)wanted) && all > 0);
 }
 
+/* Whether two worlds are the same, asked both ways. */
+static bool same(postmig_handle *world, postmig_handle *other)
+{
+    bool is_same, as_well;
+    WANT(postmig_world_is_same(world, other, &is_same) == POSTMIG_OK && postmig_world_is_same(other, world, &as_well) == POSTMIG_OK && is_same == as_well);
+    return is_same;
+}
+
 /* Before each line of a script: a question changes nothing, and the line has the same answer in the world and in a copy of it, which is that
-   of the question. Returns how many lines were refused. */
+   of the question. The copy is the same world before the line, after a line that is refused, and once both have done it. Returns how many
+   lines were refused. */
 static int each_line(const char *path)
 {
     size_t length;
@@ -78,12 +87,14 @@ static int each_line(const char *path)
         /* what the copy had before is freed */
         WANT(postmig_world_copy(&world, false, &copy) == POSTMIG_OK);
         WANT(postmig_world_answer(&world, out, ROOM, &written) == POSTMIG_OK && written == was && !memcmp(out, before, was));
-        WANT(postmig_world_answer(&copy, out, ROOM, &written) == POSTMIG_OK && !written);
+        WANT(postmig_world_answer(&copy, out, ROOM, &written) == POSTMIG_OK && !written && same(&world, &copy));
         WANT(postmig_world_counts(&world, &counts) == POSTMIG_OK && postmig_world_line(&copy, line, count, out, ROOM, &written) == POSTMIG_OK);
         WANT(postmig_world_counts(&world, &copied) == POSTMIG_OK && !memcmp(&counts, &copied, sizeof counts));
         agree(status, out, written);
         refused += status != POSTMIG_OK;
+        WANT(status == POSTMIG_OK || same(&world, &copy));
         WANT(postmig_world_line(&world, line, count, other, ROOM, &more) == POSTMIG_OK && more == written && !memcmp(other, out, more));
+        WANT(same(&world, &copy));
         free(line);
     }
     /* the copy outlives the world */
@@ -98,8 +109,11 @@ static void worlds(void)
 {
     postmig_handle world = POSTMIG_NONE, copy = POSTMIG_NONE;
     postmig_frame frame;
+    bool is_same;
     WANT(postmig_world_copy(&world, false, &copy) == POSTMIG_NOT_OPEN && !copy.at && postmig_world_would(&world, TEXT("start")) == POSTMIG_NOT_OPEN);
+    WANT(postmig_world_is_same(&world, &copy, &is_same) == POSTMIG_NOT_OPEN && !world.at && !copy.at);
     WANT(postmig_frames_new(&world) == POSTMIG_OK && postmig_world_new(1, false, &copy) == POSTMIG_OK);
+    WANT(postmig_world_is_same(&world, &copy, &is_same) == POSTMIG_NOT_OPEN && postmig_world_is_same(&copy, &world, &is_same) == POSTMIG_NOT_OPEN);
     WANT(postmig_world_line(&copy, TEXT("start"), out, ROOM, &written) == POSTMIG_OK);
     /* a decoder is no world; the handle that was to have its copy keeps what it has */
     WANT(postmig_world_copy(&world, false, &copy) == POSTMIG_NOT_OPEN && postmig_world_would(&world, TEXT("start")) == POSTMIG_NOT_OPEN);
@@ -116,7 +130,10 @@ static void worlds(void)
     /* a copy that prints its transcript, of a world that prints outcomes, and the other way */
     WANT(postmig_world_copy(&world, true, &copy) == POSTMIG_OK && postmig_world_copy(&copy, false, &world) == POSTMIG_OK);
     WANT(postmig_world_line(&copy, TEXT("cpu 0 mmap 4096 rw"), out, ROOM, &written) == POSTMIG_OK && is(out, written, "0 mmap 4096 rw => at 0x10000\n"));
+    /* a copy that has done a command is another world, whatever its lines print */
+    WANT(!same(&world, &copy));
     WANT(postmig_world_line(&world, TEXT("cpu 0 mmap 4096 rw"), out, ROOM, &written) == POSTMIG_OK && is(out, written, "cpu 0 at 0x10000\n"));
+    WANT(same(&world, &copy));
     postmig_free(&world);
     postmig_free(&copy);
 }

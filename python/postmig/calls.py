@@ -99,6 +99,7 @@ CALLS = {
     "world_answer": [POINTER, *WRITES],
     "world_counts": [POINTER, POINTER],
     "world_copy": [POINTER, BOOL, POINTER],
+    "world_is_same": [POINTER, POINTER, POINTER],
     "world_would": [POINTER, *READS],
     "world_show": [POINTER, WORD, LONG, LONG, *WRITES],
     "refusal_name": [WORD, *WRITES],

@@ -46,6 +46,14 @@ class World(Handle):
         ensure(library.postmig_world_copy(self.handle, transcript, copy.handle))
         return copy
 
+    def is_same(self, other: World) -> bool:
+        """Whether both worlds are the same, however they came about: the same lines then have the same outcomes."""
+        if other is self:  # the call takes two handles
+            return True
+        is_same = BOOL()
+        ensure(library.postmig_world_is_same(self.handle, other.handle, ctypes.byref(is_same)))
+        return is_same.value
+
     def would(self, text: bytes) -> Optional[str]:
         """The name of the refusal that a line would print, without doing it; None if it would not be refused."""
         status = library.postmig_world_would(self.handle, text, len(text))

@@ -8,3 +8,4 @@ pub mod ViewLemmas
 pub mod OneProtLemmas
 pub mod MoveLemmas
 pub mod MappedLemmas
+pub mod SameLemmas

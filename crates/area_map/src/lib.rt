@@ -16,7 +16,7 @@ mod room;
 mod search;
 mod within;
 
-ghost use Rattle.std.specs.Prelude.{◌≡◌, ℕ, ◌+◌, ◌/◌, ◌≤◌, ◌<◌, ◌⊎◌, OnOk, OnErr, IfOk, IfSome, IfNone, if◌then◌else◌};
+ghost use Rattle.std.specs.Prelude.{◌≡◌, ℕ, ◌+◌, ◌/◌, ◌≤◌, ◌<◌, ◌⊎◌, ◌↔◌, true, OnOk, OnErr, IfOk, IfSome, IfNone, if◌then◌else◌};
 ghost use Rattle.std.specs.FinMap as map;
 ghost use Rattle.mig_base.specs.Ranges.{in_range, count_below, free_place};
 ghost use Rattle.mig_base.specs.Pages.{set_range, remove_range};
@@ -146,6 +146,13 @@ impl AreaMap {
             areas,
             mapped: self.mapped,
         })
+    }
+
+    /// Whether the two maps have the same pages, with the same protections.
+    pub fn is_same(&self, other: &Self) -> bool
+        ensures { (result ≡ true) ↔ (self.now ≡ other.now) }
+    {
+        self.areas == other.areas
     }
 
     /// The protection of the `count` pages from `first` on, if all are mapped with the same one. A range of no pages has none. The

@@ -11,7 +11,7 @@ use Rattle.audit.specs.declared.rule_names.Severity.TheVariants as severity
 -- how severe it is that a rule is broken: pages that are owed are a fault only where all are expected
 abbrev pub severity_of : Asked → Rule → Severity
 severity_of asked rule.Unexplained = severity.Unexplained
-severity_of asked rule.PutTwiceWoken = severity.Note
+severity_of asked rule.PutAgain = severity.Note
 severity_of asked rule.PageOwed = if asked.expects_all then severity.Fault else severity.Note
 severity_of asked rule.Page = severity.Page
 severity_of asked broken = severity.Fault

@@ -1,11 +1,11 @@
 //! What reads say of threads and of map calls, and no line shows: a thread touches a page, or leaves its fault; an event is queued.
 
+use crate::cases::one_page;
 use crate::needs::{Wanted, wakers_of};
 use crate::search::Search;
 use crate::tasks::{Task, others};
 use crate::threads::{is_unnamed, unnamed};
-use call_log::log_call::LogCall;
-use call_log::pages::Range;
+use call_log::log_call::{LogCall, is_event};
 use kernel_rules::fault::{find, is_protection};
 use kernel_rules::{Fault, Move, Phase};
 use mig_base::NoMemory;
@@ -172,7 +172,8 @@ impl Search {
             return self.plan(others(Wanted::Waiting(object)));
         }
         if call.is_ok() {
-            self.plan_thread(ThreadTask::Show { read, next: 0 })
+            let next = self.taken(read);
+            self.plan_thread(ThreadTask::Show { read, next })
         } else {
             Ok(())
         }
@@ -196,8 +197,18 @@ impl Search {
         let (Some(object), Some(message)) = (call.object(), message) else {
             return Ok(());
         };
-        let next = next.saturating_add(1);
-        self.plan_thread(ThreadTask::Show { read, next })?;
+        if !self.may_follow(object, message)? {
+            if self.take_part(read, next)? {
+                return self.plan_thread(ThreadTask::Show { read, next });
+            }
+            if is_event(&message) && call.end != self.line {
+                // It waits for a call that has not begun.
+                self.settling.retain(|other| *other != read);
+                return Ok(());
+            }
+        }
+        let after = next.saturating_add(1);
+        self.plan_thread(ThreadTask::Show { read, next: after })?;
         if let Message::Fault {
             addr,
             flags,
@@ -209,6 +220,36 @@ impl Search {
         }
         self.plan_thread(ThreadTask::Announce { object, message })?;
         self.drain(object, read)
+    }
+
+    /// Whether a message may be queued before those that come before it in a read are taken: an event of a map call under way that has no other to
+    /// tell first, or a fault of a page that a map call clears once its event is read.
+    fn may_follow(&self, object: u64, message: Message) -> Result<bool, NoMemory> {
+        match message {
+            Message::Fault { addr, flags, .. } => {
+                self.may_fault(object, self.log.size.number(addr), flags)
+            }
+            _ => {
+                let is_told = self.kernel.teller(object, message).is_some();
+                Ok(is_told || self.next_teller(object, message).is_some())
+            }
+        }
+    }
+
+    /// Whether no map call is to clear a page that has first to tell of it, or a fault of it needs none.
+    fn may_fault(&self, object: u64, page: u64, flags: u64) -> Result<bool, NoMemory> {
+        let Some(space) = self.kernel.space_of(object) else {
+            return Ok(true);
+        };
+        if is_protection(flags) || !self.is_there(space, page) {
+            return Ok(true);
+        }
+        let clearers = self.kernel.clearers(space, page)?;
+        Ok(
+            clearers
+                .iter()
+                .all(|key| self.kernel.rules.is_told_all(u64::from(*key))),
+        )
     }
 
     /// A fault is the first that is read, after those that the read has shown.
@@ -296,17 +337,11 @@ impl Search {
         if is_protection(access.flags) {
             self.plan(Task::MakeProtected { object, page })?;
         } else {
-            let range = Range {
-                first: page,
-                count: 1,
-            };
+            let range = one_page(page);
             self.plan(Task::MakeMissing { space, range })?;
         }
         if self.kernel.page(space, page).is_none() {
-            let range = Range {
-                first: page,
-                count: 1,
-            };
+            let range = one_page(page);
             self.plan(others(Wanted::MovesTo { space, page }))?;
             self.plan(others(Wanted::Registers { object, range }))?;
         }

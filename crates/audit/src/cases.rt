@@ -7,8 +7,7 @@ use crate::rule_names::Rule;
 use crate::search::Unexplained;
 use crate::threads::named_thread;
 use crate::waits::wait_of;
-use crate::wakes::find_wakes;
-use crate::why::Refusal;
+use crate::wakes::{Twice, find_wakes};
 use call_log::log::Log;
 use call_log::log_call::LogCall;
 use call_log::pages::Range;
@@ -39,7 +38,7 @@ pub(crate) struct Case {
     pub(crate) flags: Option<u64>,
     pub(crate) since: Option<Moment>,
     pub(crate) until: Option<Moment>,
-    pub(crate) reason: Option<Refusal>,
+    pub(crate) reason: Option<&'static str>,
     /// What was done to the page that is asked for.
     pub(crate) change: Option<Change>,
 }
@@ -124,17 +123,16 @@ fn before_case(log: &Log, place: u64) -> Option<Case> {
     })
 }
 
-/// A page that the log had put when a call was to put it, and the wake that followed.
-fn twice_case(log: &Log, place: u64, woken: Option<Moment>) -> Option<Case> {
-    let call = call_at(log, place)?;
-    let rule = match woken {
-        Some(_) => Rule::PutTwiceWoken,
-        None => Rule::PutTwice,
+/// A page that the log had put when a call was to put it.
+fn twice_case(log: &Log, twice: &Twice) -> Option<Case> {
+    let call = log.call(twice.call)?;
+    let rule = if twice.is_left_asleep() {
+        Rule::PutTwice
+    } else {
+        Rule::PutAgain
     };
     Some(Case {
         range: Some(one_page(stopped_at(log, &call))),
-        since: end_of(&call),
-        until: woken,
         ..call_case(log, rule, &call)
     })
 }
@@ -279,7 +277,7 @@ fn add_calls(cases: &mut Vec<Case>, alloc: Global, judged: &Judged) -> Result<()
         add(cases, before_case(log, *place))?;
     }
     for twice in &find_wakes(alloc, log, &judged.notes.twice)? {
-        add(cases, twice_case(log, twice.place, twice.woken))?;
+        add(cases, twice_case(log, twice))?;
     }
     Ok(())
 }

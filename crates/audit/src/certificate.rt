@@ -79,18 +79,24 @@ fn is_followed(call: &LogCall) -> bool {
     is_api || call.answer.is_none() || call.has_effect()
 }
 
-/// The first call that is not followed.
-fn not_followed(log: &Log) -> Option<Missing> {
+/// The first call that is not followed, or else a read whose messages were not all taken at one time.
+fn not_followed(log: &Log, parted: Option<u32>) -> Option<Missing> {
     for place in 0..log.count() {
-        let call = log.call(u32::try_from(place).ok()?)?;
-        if !is_followed(&call) {
-            return Some(Missing::Call {
-                line: call.begin,
-                word: call.word(),
-            });
+        let place = u32::try_from(place).ok()?;
+        if !is_followed(&log.call(place)?) {
+            return refused_call(log, place);
         }
     }
-    None
+    refused_call(log, parted?)
+}
+
+/// That the call at a place is not followed.
+fn refused_call(log: &Log, place: u32) -> Option<Missing> {
+    let call = log.call(place)?;
+    Some(Missing::Call {
+        line: call.begin,
+        word: call.word(),
+    })
 }
 
 /// Why a run cannot be certified, as far as the log alone shows.
@@ -111,7 +117,7 @@ fn missing_of(judged: &Judged, entries: &EntryReader) -> Option<Missing>
     if size != PAGE_SIZE {
         return Some(Missing::PageSize(size));
     }
-    not_followed(&judged.log)
+    not_followed(&judged.log, judged.parted)
 }
 
 /// What the search found.

@@ -3,6 +3,7 @@
 use crate::cases::{Case, call_case, one_page};
 use crate::rule_names::Rule;
 use crate::search::Search;
+use crate::tellers::moves_to;
 use crate::threads::named_thread;
 use call_log::log::Log;
 use call_log::log_call::LogCall;
@@ -154,17 +155,6 @@ fn message_of(log: &Log, call: &LogCall, page: u64) -> Option<Message> {
         }
     }
     None
-}
-
-/// Whether an mremap has moved pages to this one.
-fn moves_to(log: &Log, call: &LogCall, page: u64) -> bool {
-    match (call.call, call.value()) {
-        (Call::Mremap { new_len, .. }, Some(target)) => log
-            .size
-            .range(target, new_len)
-            .contains(page),
-        _ => false,
-    }
 }
 
 impl Search {

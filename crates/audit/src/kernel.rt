@@ -1,13 +1,14 @@
 //! The kernel of a run that is being looked for, which `kernel_rules` moves, and what is noted of its calls for findings.
 
-use crate::notes::{Again, Area, Notes, Slept, Untold};
+use crate::cases::{one_page, stopped_at};
+use crate::notes::{Again, Area, Notes, Slept, Stopped, Untold};
 use call_log::log::Log;
 use call_log::log_call::{DONTWAKE, LogCall, has_put};
 use call_log::pages::Range;
 use indexmap::IndexSet;
 use kernel_rules::answers::is_clearing;
-use kernel_rules::fault::find;
-use kernel_rules::{Ending, Made, Move, Object, Page, Presence};
+use kernel_rules::fault::{find, is_protection};
+use kernel_rules::{Ending, Made, Move, Object, Page, Phase, Presence};
 use mig_base::NoMemory;
 use std::alloc::Global;
 use uffd_log::{Answer, Call, Descriptor, Errno, Message};
@@ -44,15 +45,16 @@ pub(crate) fn made_of(place: u32, call: &LogCall) -> Made {
     }
 }
 
-/// How a call of a log ended, with this answer.
+/// How a call of a log ended, with this answer and these messages.
 pub(crate) fn ending_of(
     alloc: Global,
     log: &Log,
     call: &LogCall,
     answer: Answer,
+    read: &[Message],
 ) -> Result<Ending, NoMemory> {
     let mut messages = Vec::new(alloc);
-    messages.extend_from_slice(log.messages_of(call))?;
+    messages.extend_from_slice(read)?;
     let mut runs = Vec::new(alloc);
     runs.extend_from_slice(log.runs_of(call))?;
     Ok(Ending {
@@ -133,13 +135,13 @@ impl Kernel {
         self.rules.page(u64::from(space), page)
     }
 
-    /// Whether a page of a range is registered, and nothing is known of it.
-    fn has_unknown(&self, space: u32, range: Range) -> bool {
+    /// Whether a page of a range is registered, and this is known of its presence.
+    pub(crate) fn has(&self, space: u32, range: Range, presence: Presence) -> bool {
         for number in range.first..range.end() {
-            if let Some(page) = self.page(space, number) {
-                if matches!(page.presence, Presence::Unknown) {
-                    return true;
-                }
+            if let Some(page) = self.page(space, number)
+                && is_as(page, presence)
+            {
+                return true;
             }
         }
         false
@@ -163,7 +165,7 @@ impl Kernel {
                 flags,
             } => {
                 if let Some(space) = self.space_of(object) {
-                    let unknown = self.has_unknown(space, between(page, page.saturating_add(1)));
+                    let unknown = self.has(space, one_page(page), Presence::Unknown);
                     self.resolved = self.resolved || unknown;
                 }
                 self.rules.sees(thread, object, page, flags)
@@ -189,13 +191,45 @@ impl Kernel {
         self.rules.clears(key)
     }
 
-    /// A call of a log takes effect with its answer. False where no rule allows it; then a part may be done.
-    pub(crate) fn take(&mut self, log: &Log, place: u32, call: &LogCall) -> Result<bool, NoMemory> {
+    /// A call of a log takes effect with its answer: a read with its messages but for the first ones, of which this number was taken before. False where
+    /// no rule allows it; then a part may be done.
+    pub(crate) fn take(
+        &mut self,
+        log: &Log,
+        place: u32,
+        call: &LogCall,
+        taken: u32,
+    ) -> Result<bool, NoMemory> {
         let Some(answer) = call.answer else {
             return Ok(true);
         };
         self.resolved = self.shows_unknown(log, call);
-        let ending = ending_of(self.alloc, log, call, answer)?;
+        let messages = log.messages_of(call).get(taken as usize..).unwrap_or(&[]);
+        let answer = match answer {
+            Answer::Value(count) => Answer::Value(count.saturating_sub(u64::from(taken))),
+            other => other,
+        };
+        let ending = ending_of(self.alloc, log, call, answer, messages)?;
+        self.take_ending(log, place, call, &ending)
+    }
+
+    /// The messages of a read from one place on to another are taken before its others. False where there is none, or no rule allows it; then some may be
+    /// taken.
+    pub(crate) fn take_part(
+        &mut self,
+        log: &Log,
+        place: u32,
+        call: &LogCall,
+        taken: u32,
+        until: u32,
+    ) -> Result<bool, NoMemory> {
+        let messages = log.messages_of(call);
+        let part = messages.get(taken as usize..until as usize).unwrap_or(&[]);
+        if part.is_empty() {
+            return Ok(false);
+        }
+        let answer = Answer::Value(part.len() as u64);
+        let ending = ending_of(self.alloc, log, call, answer, part)?;
         self.take_ending(log, place, call, &ending)
     }
 
@@ -210,6 +244,7 @@ impl Kernel {
         let slept = self.sleepers()?;
         let count = self.rules.unanswered().len();
         let owed = self.rules.owed().len();
+        let twice = self.rules.twice().len();
         let unknown = self.unknown_at(log, call)?;
         self.note_silenced(call)?;
         self.note_range(log, place, call)?;
@@ -222,7 +257,19 @@ impl Kernel {
         if self.rules.owed().len() > owed {
             self.notes.ended.push((owed, Some(place)))?;
         }
+        if self.rules.twice().len() > twice {
+            let waits = self.sleeps_at(call.object(), stopped_at(log, call));
+            self.notes.twice.push(Stopped { call: place, waits })?;
+        }
         Ok(made)
+    }
+
+    /// Whether a thread has found a page of an object missing, and its fault is read.
+    fn sleeps_at(&self, object: Option<u64>, page: u64) -> bool {
+        self.rules.faults().iter().any(|fault| {
+            let is_there = Some(fault.object) == object && fault.page == page;
+            is_there && !is_protection(fault.flags) && matches!(fault.phase, Phase::Asleep)
+        })
     }
 
     /// Whether a call shows a page of which nothing is known.
@@ -234,13 +281,13 @@ impl Kernel {
             return false;
         };
         match call.answer {
-            Some(Answer::Value(_)) => self.has_unknown(space, range),
+            Some(Answer::Value(_)) => self.has(space, range, Presence::Unknown),
             Some(
                 Answer::Failed {
                     errno: Errno::Eexist,
                     ..
                 },
-            ) => self.has_unknown(space, Range { count: 1, ..range }),
+            ) => self.has(space, one_page(range.first), Presence::Unknown),
             Some(
                 Answer::Failed {
                     errno: Errno::Eagain,
@@ -251,7 +298,11 @@ impl Kernel {
                     .first
                     .saturating_add(log.size.number(done))
                     .saturating_add(1);
-                self.has_unknown(space, between(range.first, end.min(range.end())))
+                self.has(
+                    space,
+                    between(range.first, end.min(range.end())),
+                    Presence::Unknown,
+                )
             }
             _ => false,
         }
@@ -318,10 +369,12 @@ impl Kernel {
     fn unknown_of(&self, object: u64) -> Result<u64, NoMemory> {
         let mut count = 0u64;
         let mut end = 0u64;
-        for range in &self.ranges_of(object)? {
-            let rest = between(range.first.max(end), range.end());
-            count = count.saturating_add(self.unknown_in(object, rest));
-            end = end.max(range.end());
+        for area in &self.areas()? {
+            if area.object == object {
+                let rest = between(area.range.first.max(end), area.range.end());
+                count = count.saturating_add(self.unknown_in(object, rest));
+                end = end.max(rest.end());
+            }
         }
         Ok(count)
     }
@@ -432,7 +485,7 @@ impl Kernel {
         let (Some(forced), Some(answer)) = (forced_call(call), forced_answer(call)) else {
             return self.force_pages(log, call);
         };
-        let ending = ending_of(self.alloc, log, call, answer)?;
+        let ending = ending_of(self.alloc, log, call, answer, &[])?;
         self.take_ending(log, place, &forced, &ending)?;
         Ok(())
     }
@@ -482,7 +535,7 @@ impl Kernel {
             call: Call::Wake { on, start, len },
             ..*call
         };
-        let ending = ending_of(self.alloc, log, call, Answer::Done)?;
+        let ending = ending_of(self.alloc, log, call, Answer::Done, &[])?;
         self.take_ending(log, place, &woken, &ending)?;
         Ok(())
     }
@@ -526,18 +579,6 @@ impl Kernel {
         Ok(keys)
     }
 
-    /// The ranges that were registered with an object, in the order of their addresses; they may overlap.
-    pub(crate) fn ranges_of(&self, object: u64) -> Result<Vec<Range>, NoMemory> {
-        let mut ranges = Vec::new(self.alloc);
-        for range in self.rules.ranges() {
-            if range.object == object {
-                ranges.push(between(range.first, range.first.saturating_add(range.count)))?;
-            }
-        }
-        ranges.sort_by_key(|range| range.first)?;
-        Ok(ranges)
-    }
-
     /// Notes the map calls whose events are not read when the log ends.
     fn note_untold(&mut self) -> Result<(), NoMemory> {
         for key in self.rules.calls() {
@@ -550,7 +591,7 @@ impl Kernel {
     }
 
     /// The ranges that were registered with open objects, in the order of their addresses; they may overlap.
-    fn areas(&self) -> Result<Vec<Area>, NoMemory> {
+    pub(crate) fn areas(&self) -> Result<Vec<Area>, NoMemory> {
         let mut areas = Vec::new(self.alloc);
         for range in self.rules.ranges() {
             if let Some(object) = self.rules.object(range.object) {
@@ -637,12 +678,11 @@ fn forced_answer(call: &LogCall) -> Option<Answer> {
     }
 }
 
-/// Whether a page is known to be missing.
-pub(crate) fn is_missing(page: Page) -> bool {
-    matches!(page.presence, Presence::Missing)
-}
-
-/// Whether a page is known to be present.
-pub(crate) fn is_present(page: Page) -> bool {
-    matches!(page.presence, Presence::Present)
+/// Whether this is known of the presence of a page.
+fn is_as(page: Page, presence: Presence) -> bool {
+    match presence {
+        Presence::Unknown => matches!(page.presence, Presence::Unknown),
+        Presence::Missing => matches!(page.presence, Presence::Missing),
+        Presence::Present => matches!(page.presence, Presence::Present),
+    }
 }

@@ -1,10 +1,10 @@
 //! Open calls that take effect before another one, for its answer.
 
-use crate::kernel::is_missing;
+use crate::cases::one_page;
 use crate::polls::PROTECTED_STORE;
-use crate::search::Search;
 use crate::search::index::message_of;
-use crate::tellers::changes;
+use crate::search::{Open, Search};
+use crate::tellers::{changes, moves_to};
 use call_log::log_call::{COPY_PROTECTS, LogCall, PROTECTS, has_put, is_event};
 use call_log::pages::{PageSize, Range};
 use kernel_rules::fault::{is_protection, stops};
@@ -36,6 +36,8 @@ pub(crate) enum Wanted {
     },
     /// Reads that return a fault of an object which waits to be read.
     Waiting(u64),
+    /// Reads that find nothing.
+    Empty(u64),
     /// Reads that return a fault of some pages of an address space, but for those that return an event of this map call, which has to tell of it first.
     FaultsOfSpace {
         space: u32,
@@ -164,7 +166,7 @@ impl Search {
                 continue;
             }
             if let Some(call) = self.log.call(open.call) {
-                if self.is_wanted(wanted, open.call, &call) {
+                if self.is_wanted(wanted, *open, &call) {
                     return Some(open.call);
                 }
             }
@@ -196,8 +198,8 @@ impl Search {
     }
 
     /// Whether each fault of a write-protected page that a read returns waits already, or its page is protected.
-    fn may_be_read(&self, object: u64, read: &LogCall) -> bool {
-        for message in self.log.messages_of(read) {
+    fn may_be_read(&self, object: u64, messages: &[Message]) -> bool {
+        for message in messages {
             if let Message::Fault { addr, flags, .. } = *message {
                 let page = self.log.size.number(addr);
                 let is_early = is_protection(flags) && self.is_bare(object, page);
@@ -209,35 +211,27 @@ impl Search {
         true
     }
 
-    /// Whether the call at a place of the log is what is looked for.
-    fn is_wanted(&self, wanted: Wanted, place: u32, call: &LogCall) -> bool {
+    /// The messages of an open call that are not taken.
+    fn rest_of(&self, open: Open, call: &LogCall) -> &[Message] {
+        let messages = self.log.messages_of(call);
+        messages.get(open.taken as usize..).unwrap_or(&[])
+    }
+
+    /// Whether an open call is what is looked for.
+    fn is_wanted(&self, wanted: Wanted, open: Open, call: &LogCall) -> bool {
         let size = self.log.size;
+        let place = open.call;
         match wanted {
             Wanted::Protecting { space, range } => {
                 self.kernel.rules.has_begun(u64::from(place))
                     && self.has_page_in(call, space, range)
             }
             Wanted::Wakers { object, page } => call.wakes(size, object, page),
-            Wanted::Faults { object, range } => {
-                call.object() == Some(object) && self.reads_fault(call, range)
-            }
-            Wanted::FaultsNow { object, range } => {
-                let is_of = call.object() == Some(object) && self.reads_fault(call, range);
-                is_of && self.may_be_read(object, call)
-            }
-            Wanted::MissingFaults { object, range } => {
-                call.object() == Some(object) && self.reads_missing(call, range)
-            }
-            Wanted::Waiting(object) => call.object() == Some(object) && self.reads_waiting(call),
-            Wanted::FaultsOfSpace { space, range, by } => {
-                let is_of = self.watches_space(call, space) && self.reads_fault(call, range);
-                is_of && !self.reads_event_of(call, by)
-            }
-            Wanted::Events => self.reads_event(call),
             Wanted::Tellers => call.is_map_call() || matches!(call.call, Call::Fork),
             Wanted::RefusedDuring(key) => self.is_refused_during(key, call),
             Wanted::Clears { space, page } => self.may_clear(call, space, page),
-            Wanted::MovesTo { space, page } => self.moves_to(call, space, page),
+            Wanted::MovesTo { space, page } => call.space == space
+                && moves_to(&self.log, call, page),
             Wanted::OfObject(object) => call.object() == Some(object),
             Wanted::Registers { object, range } => {
                 call.object() == Some(object) && self.registers(call, range)
@@ -253,7 +247,39 @@ impl Search {
                 line,
                 by,
             } => self.is_bared_before(call, object, range, line, by),
-            _ => self.is_wanted_install(wanted, call),
+            _ => match call.call {
+                Call::Read { .. } => self.is_wanted_read(wanted, call, self.rest_of(open, call)),
+                _ => self.is_wanted_install(wanted, call),
+            },
+        }
+    }
+
+    /// The same of one that reads, with the messages that it still has to take.
+    fn is_wanted_read(&self, wanted: Wanted, call: &LogCall, messages: &[Message]) -> bool {
+        let Some(object) = call.object() else {
+            return false;
+        };
+        match wanted {
+            Wanted::Faults { object: on, range } => {
+                object == on && self.has_fault(messages, range)
+            }
+            Wanted::FaultsNow { object: on, range } => {
+                object == on
+                    && self.has_fault(messages, range)
+                    && self.may_be_read(object, messages)
+            }
+            Wanted::MissingFaults { object: on, range } => {
+                object == on && self.has_missing_fault(messages, range)
+            }
+            Wanted::Waiting(on) => object == on && self.has_waiting(object, messages),
+            Wanted::Empty(on) => object == on && call.errno() == Some(Errno::Eagain),
+            Wanted::FaultsOfSpace { space, range, by } => {
+                self.kernel.space_of(object) == Some(space)
+                    && self.has_fault(messages, range)
+                    && !self.has_event_of(object, messages, by)
+            }
+            Wanted::Events => messages.iter().any(is_event),
+            _ => false,
         }
     }
 
@@ -326,40 +352,34 @@ impl Search {
         }
     }
 
-    /// Whether a call returns a fault of some pages.
-    fn reads_fault(&self, call: &LogCall, range: Range) -> bool {
-        for message in self.log.messages_of(call) {
-            if let Message::Fault { addr, .. } = *message {
-                if range.contains(self.log.size.number(addr)) {
-                    return true;
-                }
-            }
-        }
-        false
+    /// Whether a message is a fault of some pages.
+    fn has_fault(&self, messages: &[Message], range: Range) -> bool {
+        let size = self.log.size;
+        messages.iter().any(|message| match *message {
+            Message::Fault { addr, .. } => range.contains(size.number(addr)),
+            _ => false,
+        })
     }
 
-    /// Whether a call returns a fault of some pages which says that the page is missing.
-    fn reads_missing(&self, call: &LogCall, range: Range) -> bool {
-        for message in self.log.messages_of(call) {
-            if let Message::Fault { addr, flags, .. } = *message {
-                if !is_protection(flags) && range.contains(self.log.size.number(addr)) {
-                    return true;
-                }
+    /// Whether one is a fault of some pages which says that the page is missing.
+    fn has_missing_fault(&self, messages: &[Message], range: Range) -> bool {
+        let size = self.log.size;
+        messages.iter().any(|message| match *message {
+            Message::Fault { addr, flags, .. } => {
+                !is_protection(flags) && range.contains(size.number(addr))
             }
-        }
-        false
+            _ => false,
+        })
     }
 
-    /// Whether a call returns a fault that waits to be read.
-    fn reads_waiting(&self, call: &LogCall) -> bool {
-        for message in self.log.messages_of(call) {
-            if let (Some(object), Message::Fault { addr, flags, .. }) = (call.object(), *message) {
-                if self.is_waiting(object, self.log.size.number(addr), flags) {
-                    return true;
-                }
+    /// Whether one is a fault that waits to be read.
+    fn has_waiting(&self, object: u64, messages: &[Message]) -> bool {
+        messages.iter().any(|message| match *message {
+            Message::Fault { addr, flags, .. } => {
+                self.is_waiting(object, self.log.size.number(addr), flags)
             }
-        }
-        false
+            _ => false,
+        })
     }
 
     /// Whether a fault waits to be read.
@@ -373,27 +393,14 @@ impl Search {
         false
     }
 
-    /// Whether a call returns an event.
-    fn reads_event(&self, call: &LogCall) -> bool {
-        for message in self.log.messages_of(call) {
-            if is_event(message) {
-                return true;
-            }
+    /// Whether one is an event that may be of a map call.
+    fn has_event_of(&self, object: u64, messages: &[Message], by: u32) -> bool {
+        match self.log.call(by) {
+            Some(teller) => messages
+                .iter()
+                .any(|message| self.may_tell(&teller, object, *message)),
+            None => false,
         }
-        false
-    }
-
-    /// Whether a call returns an event that may be of a map call.
-    fn reads_event_of(&self, call: &LogCall, by: u32) -> bool {
-        let (Some(object), Some(teller)) = (call.object(), self.log.call(by)) else {
-            return false;
-        };
-        for message in self.log.messages_of(call) {
-            if self.may_tell(&teller, object, *message) {
-                return true;
-            }
-        }
-        false
     }
 
     /// Whether a call was refused with EAGAIN by an object which a map call has told.
@@ -407,20 +414,8 @@ impl Search {
 
     /// Whether a call is a madvise of this page.
     fn may_clear(&self, call: &LogCall, space: u32, page: u64) -> bool {
-        let range = Range {
-            first: page,
-            count: 1,
-        };
         let is_of = matches!(call.call, Call::Madvise { .. }) && call.space == space;
-        is_of && changes(self.log.size, call, range)
-    }
-
-    /// Whether a call is an mremap that makes a page registered at this place.
-    fn moves_to(&self, call: &LogCall, space: u32, page: u64) -> bool {
-        let (Call::Mremap { new_len, .. }, Some(target)) = (call.call, call.value()) else {
-            return false;
-        };
-        call.space == space && self.log.size.range(target, new_len).contains(page)
+        is_of && changes(self.log.size, call, one_page(page))
     }
 
     /// The first page that a call of an open object puts, with its address space.
@@ -429,7 +424,8 @@ impl Search {
         Some((space, self.log.pages_of(call)?.first))
     }
 
-    /// Whether a call puts a page, or takes its protection away, and another one protects the page after it: the next fault of it that is read says so.
+    /// Whether a call puts pages, or takes their protection away, and another one protects one of these after it, in a range: the next fault of that
+    /// page that is read says so.
     fn is_bared_before(
         &self,
         call: &LogCall,
@@ -438,14 +434,20 @@ impl Search {
         line: u32,
         by: u32,
     ) -> bool {
-        let Some(pages) = self.log.pages_of(call) else {
+        let (Some(pages), true) = (
+            self.log.pages_of(call),
+            bares(call) && call.object() == Some(object),
+        ) else {
             return false;
         };
-        let is_of = call.object() == Some(object) && range.contains(pages.first);
-        bares(call)
-            && is_of
-            && !self.kernel.rules.has_protected(u64::from(by), pages.first)
-            && self.is_next_protected(object, pages.first, line) == Some(true)
+        let common = pages.common(range);
+        for page in common.first..common.end() {
+            let is_next = self.is_next_protected(object, page, line) == Some(true);
+            if is_next && !self.kernel.rules.has_protected(u64::from(by), page) {
+                return true;
+            }
+        }
+        false
     }
 
     /// Whether the next fault of a page that is read after a line says that it is write-protected, if one is read.
@@ -498,14 +500,6 @@ impl Search {
                 Some(page) => !stops(object, PROTECTED_STORE, page),
                 None => false,
             },
-            None => false,
-        }
-    }
-
-    /// Whether a page is registered, and known to be missing.
-    pub(crate) fn is_known_missing(&self, space: u32, number: u64) -> bool {
-        match self.kernel.page(space, number) {
-            Some(page) => is_missing(page),
             None => false,
         }
     }

@@ -40,6 +40,14 @@ pub(crate) struct Untold {
     pub(crate) object: Option<u64>,
 }
 
+/// A call that has stopped at a page which the log had put.
+#[derive(Clone, Copy)]
+pub(crate) struct Stopped {
+    pub(crate) call: u32,
+    /// Whether a thread has found this page missing, and sleeps there.
+    pub(crate) waits: bool,
+}
+
 /// A range that was registered with an object when the log ended.
 #[derive(Clone, Copy)]
 pub(crate) struct Area {
@@ -69,7 +77,7 @@ pub(crate) struct Notes {
     /// The faults that nobody has resolved.
     pub(crate) unanswered: Vec<Slept>,
     /// The calls that stopped at a page which the log had put, and at another one that was there.
-    pub(crate) twice: Vec<u64>,
+    pub(crate) twice: Vec<Stopped>,
     pub(crate) before: Vec<u64>,
     /// The calls on pages that are not registered.
     pub(crate) outside: Vec<u64>,
@@ -108,7 +116,6 @@ impl Notes {
 
     /// Adds what a kernel has at the end of a log.
     pub(crate) fn add_last(&mut self, rules: &kernel_rules::Kernel) -> Result<(), NoMemory> {
-        self.twice.extend_from_slice(rules.twice())?;
         self.before.extend_from_slice(rules.there_before())?;
         self.outside.extend_from_slice(rules.outside())?;
         self.differs.extend_from_slice(rules.differs())?;

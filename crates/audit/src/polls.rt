@@ -2,7 +2,7 @@
 //! or nobody reads it.
 
 use crate::accesses::{Access, ThreadTask};
-use crate::needs::wakers_of;
+use crate::needs::{Wanted, wakers_of};
 use crate::search::{Put, Search};
 use crate::tasks::{Task, others};
 use crate::threads::stranger;
@@ -27,6 +27,8 @@ pub(crate) const PROTECTED_STORE: u64 = 3;
 pub(crate) enum PollTask {
     /// What the answer of a poll needs.
     Look(u32),
+    /// A message for it.
+    Find(u32),
     /// The first message of a read waits already. Where it `leaves` its thread may have left another fault by a signal.
     Early {
         object: u64,
@@ -52,6 +54,7 @@ impl Search {
     pub(crate) fn turn_poll(&mut self, task: PollTask) -> Result<(), NoMemory> {
         match task {
             PollTask::Look(poll) => self.prepare_poll(poll),
+            PollTask::Find(poll) => self.find_message(poll),
             PollTask::Early {
                 object,
                 read,
@@ -87,6 +90,18 @@ impl Search {
             self.placed = Some(poll);
             return Ok(());
         }
+        self.plan_poll(PollTask::Find(poll))?;
+        self.plan(others(Wanted::Empty(object)))
+    }
+
+    /// A message comes before the answer of a poll, and after the reads under way that find nothing.
+    fn find_message(&mut self, poll: u32) -> Result<(), NoMemory> {
+        let Some(call) = self.log.call(poll) else {
+            return Ok(());
+        };
+        let Some(object) = call.object() else {
+            return Ok(());
+        };
         self.touched = false;
         let read = self.read_after(&call);
         let next = 0;
@@ -96,10 +111,11 @@ impl Search {
 
     /// Another thread's read has returned a message while the poll lasted: the poll took effect before that. Whether there is one.
     fn was_read(&mut self, poll: u32, object: u64) -> Result<bool, NoMemory> {
-        let (Some(begun), Some(read)) = (self.begun(poll), self.took.get(&object).copied()) else {
+        let (Some(open), Some(read)) = (self.find_open(poll), self.took.get(&object).copied())
+        else {
             return Ok(false);
         };
-        if read < begun {
+        if read < open.begun {
             return Ok(false);
         }
         self.run.put_effect_before(read, poll)?;
@@ -157,14 +173,11 @@ impl Search {
         None
     }
 
-    /// The first message of a read that succeeds.
+    /// The first message that a read still has to take, if it succeeds.
     fn first_message(&self, read: u32) -> Option<Message> {
         let call = self.log.call(read)?;
-        if call.is_ok() {
-            self.log.messages_of(&call).first().copied()
-        } else {
-            None
-        }
+        let messages = self.log.messages_of(&call);
+        messages.get(self.taken(read) as usize).copied()
     }
 
     fn show_early(&mut self, object: u64, read: u32, leaves: bool) -> Result<(), NoMemory> {
@@ -294,7 +307,7 @@ impl Search {
             self.placed = Some(poll);
             return Ok(());
         }
-        match read {
+        match read.and_then(|read| self.first_message(read)) {
             Some(_) => self.plan_early(object, read, true),
             None => self.wait_unread(object),
         }
@@ -302,14 +315,14 @@ impl Search {
 
     /// A page was put while the poll lasted: the poll took effect before that. Whether there is one.
     fn has_vanished(&mut self, poll: u32, object: u64) -> Result<bool, NoMemory> {
-        let Some(begun) = self.begun(poll) else {
+        let Some(open) = self.find_open(poll) else {
             return Ok(false);
         };
         for back in 0..self.put.len() {
             let Some(put) = self.put_from_end(back) else {
                 return Ok(false);
             };
-            if put.step < begun {
+            if put.step < open.begun {
                 return Ok(false);
             }
             if let Some(page) = self.woken_page(put.call, object) {
@@ -318,16 +331,6 @@ impl Search {
             }
         }
         Ok(false)
-    }
-
-    /// The number of steps before an open call.
-    fn begun(&self, place: u32) -> Option<u32> {
-        for open in &self.open {
-            if open.call == place {
-                return Some(open.begun);
-            }
-        }
-        None
     }
 
     /// The install that took effect last, or the one this far before it.
@@ -371,14 +374,13 @@ impl Search {
         Ok(())
     }
 
-    /// No read follows: a thread waits at a page that is missing or protected, and its fault is unread to the end.
+    /// No read returns it: a thread waits at a page that is missing or protected, and its fault is unread to the end, or until a signal comes.
     fn wait_unread(&mut self, object: u64) -> Result<(), NoMemory> {
         let Some(space) = self.kernel.space_of(object) else {
             return Ok(());
         };
-        let ranges = self.kernel.ranges_of(object)?;
-        for range in &ranges {
-            if self.waits_within(object, space, *range)? {
+        for area in &self.kernel.areas()? {
+            if area.object == object && self.waits_within(object, space, area.range)? {
                 return Ok(());
             }
         }

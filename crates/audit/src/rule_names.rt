@@ -39,10 +39,10 @@ pub(crate) enum Rule {
     Unexplained,
     /// A page is registered when it is put.
     NotRegistered,
-    /// It is put once, or a wake of it follows the call that finds it there.
+    /// No thread sleeps on at a page that a call finds there.
     PutTwice,
     /// It is put once.
-    PutTwiceWoken,
+    PutAgain,
     /// Nobody touches it before.
     PresentBefore,
     /// Each fault that is read is resolved.
@@ -65,7 +65,7 @@ impl Rule {
         Rule::Unexplained,
         Rule::NotRegistered,
         Rule::PutTwice,
-        Rule::PutTwiceWoken,
+        Rule::PutAgain,
         Rule::PresentBefore,
         Rule::FaultNotResolved,
         Rule::Late,
@@ -79,7 +79,7 @@ impl Rule {
             Rule::Unexplained => "unexplained-answer",
             Rule::NotRegistered => "not-registered",
             Rule::PutTwice => "put-twice",
-            Rule::PutTwiceWoken => "put-twice-woken",
+            Rule::PutAgain => "put-again",
             Rule::PresentBefore => "present-before",
             Rule::FaultNotResolved => "fault-not-resolved",
             Rule::Late => "late",
@@ -95,8 +95,8 @@ impl Rule {
         match self {
             Rule::Unexplained => "no run was found that gives this answer",
             Rule::NotRegistered => "a page of the range is not registered",
-            Rule::PutTwice => "the page was put before by this log, and no wake follows",
-            Rule::PutTwiceWoken => "the page was put before by this log, and a wake follows",
+            Rule::PutTwice => "the page was put before by this log, and a thread sleeps on there",
+            Rule::PutAgain => "the page was put before by this log",
             Rule::PresentBefore => "the page was present before",
             Rule::FaultNotResolved => "the page fault was not resolved",
             Rule::Late => "the page fault waited too long",
@@ -113,7 +113,7 @@ impl Rule {
     {
         match self {
             Rule::Unexplained => Severity::Unexplained,
-            Rule::PutTwiceWoken => Severity::Note,
+            Rule::PutAgain => Severity::Note,
             Rule::PageOwed if !asked.expects_all => Severity::Note,
             Rule::Page => Severity::Page,
             _ => Severity::Fault,
@@ -141,9 +141,9 @@ impl Rule {
                 "the page was unmapped or moved meanwhile, or the address is wrong (LINUX.md, For authors of a handler)"
             }
             Rule::PutTwice => {
-                "the bytes of the later call are lost, and a thread that it was to wake sleeps on (LINUX.md, For authors of a handler)"
+                "the bytes of the later call are lost, and a thread that waits for the page sleeps on (LINUX.md, For authors of a handler)"
             }
-            Rule::PutTwiceWoken => {
+            Rule::PutAgain => {
                 "the bytes of the later call are lost; that is harmless where both have the same (LINUX.md, For authors of a handler)"
             }
             Rule::PresentBefore => {

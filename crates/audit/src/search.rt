@@ -5,17 +5,17 @@
 pub(crate) mod index;
 
 use crate::accesses::Shown;
+use crate::cases::one_page;
 use crate::history::{Doing, History};
-use crate::kernel::{Kernel, is_present};
+use crate::kernel::Kernel;
 use crate::needs::Wanted;
 use crate::run::Run;
 use crate::search::index::Index;
 use crate::tasks::{Frame, Task, others};
-use crate::why::Refusal;
 use call_log::log::Log;
 use call_log::log_call::{Kind, LogCall, has_put};
 use indexmap::IndexMap;
-use kernel_rules::Move;
+use kernel_rules::{Move, Presence};
 use mig_base::NoMemory;
 use std::alloc::Global;
 use uffd_log::Answer;
@@ -26,6 +26,8 @@ pub(crate) struct Open {
     pub(crate) call: u32,
     /// The number of steps before its begin.
     pub(crate) begun: u32,
+    /// Of a read: how many of its messages were taken before the others.
+    pub(crate) taken: u32,
 }
 
 /// An install that took effect, by the place of its step.
@@ -39,7 +41,7 @@ pub(crate) struct Put {
 #[derive(Clone, Copy)]
 pub(crate) struct Unexplained {
     pub(crate) call: u32,
-    pub(crate) reason: Refusal,
+    pub(crate) reason: &'static str,
 }
 
 #[derive(Drop)]
@@ -53,6 +55,8 @@ pub(crate) struct Search {
     pub(crate) agenda: Vec<Task>,
     /// The calls that are to take effect once what they need is done.
     pub(crate) settling: Vec<u32>,
+    /// Whether there was too much to do for them.
+    pub(crate) gave_up: bool,
     pub(crate) index: Index,
     pub(crate) put: Vec<Put>,
     /// For each object, the step of the read with messages that took effect last.
@@ -67,6 +71,8 @@ pub(crate) struct Search {
     pub(crate) unnamed: u64,
     pub(crate) strangers: u64,
     pub(crate) unexplained: Vec<Unexplained>,
+    /// The first read whose messages were not all taken at one time.
+    pub(crate) parted: Option<u32>,
     /// The line of the log that is looked at.
     pub(crate) line: u32,
     pub(crate) history: History,
@@ -84,6 +90,7 @@ impl Search {
             open: Vec::new(alloc),
             agenda: Vec::new(alloc),
             settling: Vec::new(alloc),
+            gave_up: false,
             index,
             put: Vec::new(alloc),
             took: IndexMap::new(alloc),
@@ -93,6 +100,7 @@ impl Search {
             unnamed: 0,
             strangers: 0,
             unexplained: Vec::new(alloc),
+            parted: None,
             line: 0,
             history: History::new(alloc, page),
         })
@@ -136,7 +144,11 @@ impl Search {
         };
         if call.has_effect() {
             let begun = self.run.len()?;
-            self.open.push(Open { call: place, begun })?;
+            self.open.push(Open {
+                call: place,
+                begun,
+                taken: 0,
+            })?;
         }
         Ok(())
     }
@@ -147,8 +159,7 @@ impl Search {
         };
         self.line = call.end;
         if call.answer == Some(Answer::Interrupted) && !self.log.messages_of(&call).is_empty() {
-            let reason = Refusal::Plain("it was interrupted, and read messages");
-            self.refuse(place, reason)?;
+            self.refuse(place, "it was interrupted, and read messages")?;
         }
         if call.has_effect() && !call.done {
             self.carry_out(Task::Settle(place))?;
@@ -161,7 +172,7 @@ impl Search {
             self.carry_out(others(Wanted::Events))?;
         }
         if !self.kernel.rules.is_told_all(key) {
-            self.refuse(place, Refusal::Plain("an event of the call is unread"))?;
+            self.refuse(place, "an event of the call is unread")?;
         } else if self.kernel.rules.clear_span(key).is_some() {
             self.step(Move::Clears { key: place })?;
         }
@@ -198,7 +209,7 @@ impl Search {
     }
 
     /// No rule allows the answer of a call.
-    fn refuse(&mut self, place: u32, reason: Refusal) -> Result<(), NoMemory> {
+    fn refuse(&mut self, place: u32, reason: &'static str) -> Result<(), NoMemory> {
         self.unexplained.push(Unexplained {
             call: place,
             reason,
@@ -217,6 +228,9 @@ impl Search {
         let Some(call) = self.log.call(place) else {
             return Ok(());
         };
+        if !self.settling.contains(&place) {
+            return Ok(());
+        }
         let step = self.run.len()?;
         if self.placed == Some(place) {
             self.placed = None;
@@ -231,11 +245,16 @@ impl Search {
 
     /// Judges the answer of a call, which takes effect.
     fn judge(&mut self, frame: Frame, call: &LogCall) -> Result<(), NoMemory> {
-        if self.kernel.take(&self.log, frame.call, call)? {
+        let taken = self.taken(frame.call);
+        if self.kernel.take(&self.log, frame.call, call, taken)? {
             self.note_kind(frame, call);
             return Ok(());
         }
-        let reason = self.kernel.why(&self.log, frame.call, call);
+        let reason = if self.gave_up {
+            "the search was given up"
+        } else {
+            self.kernel.why(&self.log, call)
+        };
         self.refuse(frame.call, reason)?;
         self.kernel.force(&self.log, frame.call, call)
     }
@@ -254,6 +273,45 @@ impl Search {
         self.set_kind(frame.call, if may { Kind::May } else { Kind::Must });
     }
 
+    /// How many messages of a read were taken before its others.
+    pub(crate) fn taken(&self, place: u32) -> u32 {
+        match self.find_open(place) {
+            Some(open) => open.taken,
+            None => 0,
+        }
+    }
+
+    /// A call that has not taken effect.
+    pub(crate) fn find_open(&self, place: u32) -> Option<Open> {
+        for open in &self.open {
+            if open.call == place {
+                return Some(*open);
+            }
+        }
+        None
+    }
+
+    /// The messages of a read that are not yet taken and come before the one at this place are taken, and the others later. False where there is none, or no rule
+    /// allows it.
+    pub(crate) fn take_part(&mut self, read: u32, until: u32) -> Result<bool, NoMemory> {
+        let taken = self.taken(read);
+        let Some(call) = self.log.call(read) else {
+            return Ok(false);
+        };
+        if !self.kernel.take_part(&self.log, read, &call, taken, until)? {
+            return Ok(false);
+        }
+        for open in &mut self.open {
+            if open.call == read {
+                open.taken = until;
+            }
+        }
+        self.parted = self.parted.or(Some(read));
+        let step = self.run.len()?;
+        self.note_taken(&call, step)?;
+        Ok(true)
+    }
+
     /// A call has taken effect, by this step.
     fn finish(&mut self, place: u32, call: &LogCall, step: u32) -> Result<(), NoMemory> {
         self.log.set_done(place);
@@ -263,7 +321,15 @@ impl Search {
         if call.install_mode().is_some() && has_put(call) {
             self.put.push(Put { call: place, step })?;
         }
-        if let (Some(object), false) = (call.object(), self.log.messages_of(call).is_empty()) {
+        if !self.log.messages_of(call).is_empty() {
+            self.note_taken(call, step)?;
+        }
+        Ok(())
+    }
+
+    /// A read has taken messages, before or by this step.
+    fn note_taken(&mut self, call: &LogCall, step: u32) -> Result<(), NoMemory> {
+        if let Some(object) = call.object() {
             self.took.insert(object, step)?;
         }
         Ok(())
@@ -271,9 +337,6 @@ impl Search {
 
     /// Whether a page is registered, and known to be present.
     pub(crate) fn is_there(&self, space: u32, number: u64) -> bool {
-        match self.kernel.page(space, number) {
-            Some(page) => is_present(page),
-            None => false,
-        }
+        self.kernel.has(space, one_page(number), Presence::Present)
     }
 }

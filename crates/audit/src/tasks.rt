@@ -1,16 +1,20 @@
 //! What is to be done for the answer of a call, before it takes effect: other calls that take effect earlier, and steps that no line shows.
 
 use crate::accesses::ThreadTask;
+use crate::cases::one_page;
 use crate::needs::{Wanted, is_refused_for_now};
 use crate::polls::PollTask;
 use crate::search::Search;
 use crate::search::index::{FaultRead, message_of};
 use call_log::log_call::{LogCall, PROTECTS};
 use call_log::pages::Range;
-use kernel_rules::Move;
 use kernel_rules::fault::{find, is_protection};
+use kernel_rules::{Move, Presence};
 use mig_base::NoMemory;
 use uffd_log::{Call, Errno, Message};
+
+/// The most tasks for a call that ends: each open call takes effect once, and needs few for each of its pages and messages.
+const MOST_TASKS: u32 = 1 << 20;
 
 /// A call that takes effect, with the number of steps before those that it needs.
 #[derive(Clone, Copy)]
@@ -68,13 +72,24 @@ impl Search {
     pub(crate) fn carry_out(&mut self, task: Task) -> Result<(), NoMemory> {
         self.agenda.clear();
         self.plan(task)?;
-        // Each open call takes effect once, and needs few tasks for each of its pages and messages.
-        for _ in 0..u64::MAX {
+        for _ in 0..MOST_TASKS {
             let Some(task) = self.agenda.pop() else {
                 return Ok(());
             };
             self.turn(task)?;
         }
+        self.give_up()
+    }
+
+    /// The calls that are about to take effect do, without what is left to do for them.
+    fn give_up(&mut self) -> Result<(), NoMemory> {
+        self.gave_up = true;
+        for _ in 0..self.agenda.len() {
+            if let Some(Task::Take(frame)) = self.agenda.pop() {
+                self.take_effect(frame)?;
+            }
+        }
+        self.gave_up = false;
         Ok(())
     }
 
@@ -181,7 +196,12 @@ impl Search {
             space,
             range,
             by: place,
-        }))
+        }))?;
+        // Where it ends before its own event could be read it maps what another call has unmapped.
+        if matches!(call.call, Call::Mmap { .. }) && line == self.line {
+            self.plan(others(Wanted::Unregisters { space, range }))?;
+        }
+        Ok(())
     }
 
     fn prepare_unregister(&mut self, call: &LogCall) -> Result<(), NoMemory> {
@@ -233,9 +253,8 @@ impl Search {
                 self.make_registered(object, range)
             }
             Some(Errno::Eexist) => {
-                let first = Range { count: 1, ..range };
                 self.make_there(object, range.first)?;
-                self.make_registered(object, first)
+                self.make_registered(object, one_page(range.first))
             }
             Some(Errno::Enoent) => self.make_unregistered(object, range),
             Some(Errno::Eagain) => match call.woken(self.log.size) {
@@ -289,10 +308,9 @@ impl Search {
     /// its pages.
     fn make_there(&mut self, object: u64, page: u64) -> Result<(), NoMemory> {
         match self.kernel.space_of(object) {
-            Some(space) if self.is_known_missing(space, page) => self.plan(others(Wanted::Installs {
-                object,
-                page,
-            })),
+            Some(space) if self.kernel.has(space, one_page(page), Presence::Missing) => {
+                self.plan(others(Wanted::Installs { object, page }))
+            }
             Some(space) if !self.is_there(space, page) => {
                 self.plan(others(Wanted::Puts { object, page }))
             }
@@ -336,10 +354,7 @@ impl Search {
         self.plan(Task::ProtectBy { call: by, page })?;
         self.plan(others(Wanted::Protected {
             object,
-            range: Range {
-                first: page,
-                count: 1,
-            },
+            range: one_page(page),
             line: self.line,
             by,
         }))

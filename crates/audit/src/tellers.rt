@@ -4,15 +4,38 @@ use crate::needs::Wanted;
 use crate::polls::NEAR;
 use crate::search::Search;
 use crate::tasks::{Task, others};
+use call_log::log::Log;
 use call_log::log_call::LogCall;
 use call_log::pages::{PageSize, Range};
 use mig_base::NoMemory;
 use uffd_log::{Call, Message};
 
+/// MAP_FIXED.
+const FIXED: u64 = 0x10;
+
 /// Whether an address is that of the pages that a call moves.
 fn moves_from(call: &LogCall, from: u64) -> bool {
     match call.call {
         Call::Mremap { addr, .. } => addr == from,
+        _ => false,
+    }
+}
+
+/// Whether a call may unmap registered pages: an mmap does with MAP_FIXED alone.
+fn may_unmap(call: &LogCall) -> bool {
+    match call.call {
+        Call::Mmap { flags, .. } => flags & FIXED != 0,
+        Call::Munmap { .. } | Call::Mremap { .. } => true,
+        _ => false,
+    }
+}
+
+/// Whether a call is an mremap that has moved pages to this one.
+pub(crate) fn moves_to(log: &Log, call: &LogCall, page: u64) -> bool {
+    match (call.call, call.value()) {
+        (Call::Mremap { new_len, .. }, Some(target)) => {
+            log.size.rounded(target, new_len).contains(page)
+        }
         _ => false,
     }
 }
@@ -107,15 +130,16 @@ impl Search {
         if self.kernel.space_of(object) != Some(call.space) {
             return false;
         }
-        let is_madvise = matches!(call.call, Call::Madvise { .. });
         match message {
             Message::Fault { .. } => false,
             Message::Fork { .. } => matches!(call.call, Call::Fork),
             Message::Remap { from, .. } => moves_from(call, from),
-            Message::Remove { start, end } => is_madvise && self.changes_within(call, start, end),
-            Message::Unmap { start, end } => call.is_map_call()
-                && !is_madvise
-                && self.changes_within(call, start, end),
+            Message::Remove { start, end } => {
+                matches!(call.call, Call::Madvise { .. }) && self.changes_within(call, start, end)
+            }
+            Message::Unmap { start, end } => {
+                may_unmap(call) && self.changes_within(call, start, end)
+            }
         }
     }
 

@@ -1,43 +1,82 @@
-//! Which wake follows a call that has found its page there.
+//! What becomes of a thread that sleeps at a page which a call has found there: whether anybody wakes it.
 
-use crate::cases::{Moment, call_at, end_of, stopped_at};
+use crate::cases::stopped_at;
+use crate::notes::Stopped;
 use call_log::log::Log;
-use call_log::log_call::LogCall;
+use call_log::log_call::{LogCall, has_put};
+use call_log::pages::Range;
 use mig_base::NoMemory;
 use std::alloc::Global;
-use uffd_log::Call;
+use uffd_log::{Answer, Call};
 
-/// A call that has stopped at a page which the log had put, by its place.
+/// A call that has stopped at a page which the log had put.
 #[derive(Clone, Copy)]
 pub(crate) struct Twice {
-    pub(crate) place: u64,
+    pub(crate) call: u32,
     object: u64,
     page: u64,
     /// The line where it ends.
     end: u32,
-    /// When the first call returned after it that wakes the threads at its page.
-    pub(crate) woken: Option<Moment>,
+    /// Whether a thread sleeps there.
+    waits: bool,
+    /// Whether the call that has put the page woke nobody, and no other call has since.
+    is_silent: bool,
+    /// Whether a later call wakes the threads there.
+    is_woken: bool,
 }
 
-/// A call of this place, which nothing wakes so far.
-fn twice_of(log: &Log, place: u64) -> Option<Twice> {
-    let call = call_at(log, place)?;
+impl Twice {
+    /// Whether a thread sleeps there that nobody wakes.
+    pub(crate) fn is_left_asleep(&self) -> bool {
+        self.waits && self.is_silent && !self.is_woken
+    }
+
+    /// A call has returned that has put the page, or wakes the threads there.
+    fn note(&mut self, call: &LogCall) {
+        let wakes = call.is_waking();
+        if self.end < call.end {
+            self.is_woken = self.is_woken || wakes;
+        } else {
+            self.is_silent = !wakes;
+        }
+    }
+}
+
+fn twice_of(log: &Log, stopped: Stopped) -> Option<Twice> {
+    let call = log.call(stopped.call)?;
     Some(Twice {
-        place,
+        call: stopped.call,
         object: call.object()?,
         page: stopped_at(log, &call),
         end: call.end,
-        woken: None,
+        waits: stopped.waits,
+        is_silent: false,
+        is_woken: false,
     })
 }
 
-/// Notes a call that returned, where it wakes the threads at pages of these calls, which are in the order of objects and pages. One that ends
-/// the registration is no answer to them.
-fn note_wake(twice: &mut Vec<Twice>, log: &Log, call: &LogCall) {
-    if matches!(call.call, Call::Unregister { .. }) {
-        return;
+/// The pages that a call has put, or at which it wakes threads. One that ends their registration is no answer to these.
+fn pages_changed(log: &Log, call: &LogCall) -> Option<Range> {
+    let puts = call.install_mode().is_some() && has_put(call);
+    if matches!(call.call, Call::Unregister { .. }) || !puts && !call.is_waking() {
+        return None;
     }
-    let (Some(object), Some(range)) = (call.object(), call.woken(log.size)) else {
+    let range = log.pages_of(call)?;
+    let count = match call.answer {
+        Some(
+            Answer::Failed {
+                bytes: Some(done),
+                ..
+            },
+        ) => range.count.min(log.size.number(done)),
+        _ => range.count,
+    };
+    Some(Range { count, ..range })
+}
+
+/// Notes a call that returned with those of these calls at whose pages it has done anything. They are in the order of objects and pages.
+fn note_call(twice: &mut Vec<Twice>, log: &Log, call: &LogCall) {
+    let (Some(object), Some(range)) = (call.object(), pages_changed(log, call)) else {
         return;
     };
     let first = twice.partition_point(|one| (one.object, one.page) < (object, range.first));
@@ -45,17 +84,19 @@ fn note_wake(twice: &mut Vec<Twice>, log: &Log, call: &LogCall) {
         if one.object != object || !range.contains(one.page) {
             return;
         }
-        if one.end < call.end && one.woken.is_none() {
-            one.woken = end_of(call);
-        }
+        one.note(call);
     }
 }
 
-/// These calls, each with the wake that follows it.
-pub(crate) fn find_wakes(alloc: Global, log: &Log, places: &[u64]) -> Result<Vec<Twice>, NoMemory> {
+/// These calls, each with what becomes of the threads at its page.
+pub(crate) fn find_wakes(
+    alloc: Global,
+    log: &Log,
+    stopped: &[Stopped],
+) -> Result<Vec<Twice>, NoMemory> {
     let mut twice = Vec::new(alloc);
-    for place in places {
-        if let Some(one) = twice_of(log, *place) {
+    for one in stopped {
+        if let Some(one) = twice_of(log, *one) {
             twice.push(one)?;
         }
     }
@@ -65,7 +106,7 @@ pub(crate) fn find_wakes(alloc: Global, log: &Log, places: &[u64]) -> Result<Vec
     twice.sort_by_key(|one| (one.object, one.page))?;
     for place in &log.ends {
         if let Some(call) = log.call(*place) {
-            note_wake(&mut twice, log, &call);
+            note_call(&mut twice, log, &call);
         }
     }
     Ok(twice)

@@ -17,17 +17,10 @@ use Rattle.uffd_log.specs.Lines.{Spells}
 use Rattle.log_entries.specs.declared.entry_reader.EntryReader.{EntryReader}
 use Rattle.log_entries.specs.declared.log_line.LogLine.{LogLine}
 use Rattle.log_entries.specs.Readers.{HasRead}
+use Rattle.lines.proofs.Cuts.{joined_push, no_feed-append}
 use Rattle.call_log.proofs.Lines.{right_of}
 use Rattle.call_log.specs.Listing.{AreLines, BeginsWith, IsLog, head_word, HasNoFeed, ListsLine, Lists, IsRead, ReadsLog, joined, AreListed, IsRight}
 use Rattle.call_log.specs.Reading.{At, Completes, Enters, IsNew, IsWhole, Leads, EndsLine, Ran, Writes, Finished, ReadsLines, AddsAny}
-
-no_feed-append : (xs ys : List ℕ) → HasNoFeed xs → HasNoFeed ys → HasNoFeed (xs ++ ys)
-no_feed-append [] ys p q = q
-no_feed-append (x ∷ xs) ys p q = (p.0, no_feed-append xs ys p.1 q)
-
-joined_push : (raws : List (List ℕ)) (raw : List ℕ) → joined (raws ++ raw ∷ []) ≡ joined raws ++ (raw ++ 10 ∷ [])
-joined_push [] raw = refl
-joined_push (first ∷ raws) raw = ap (λ (t : List ℕ). first ++ 10 ∷ t) (joined_push raws raw) ∙ sym (append_assoc first (10 ∷ joined raws) (raw ++ 10 ∷ []))
 
 -- a line more
 lists_push : (name : List ℕ) (n m before : ℕ) (raws : List (List ℕ)) (t : List ℕ) (mid : ℕ) (raw : List ℕ) (texts : List (List ℕ)) (after : ℕ) → Lists name n before raws t mid → m ≡ n + length raws → HasNoFeed raw
@@ -219,15 +212,19 @@ pub record Led (p : LineReader) (bytes rest : List ℕ) (q : LineReader) : Type 
 pub led_none : (p : LineReader) (bytes : List ℕ) → Led p bytes bytes p
 led_none p bytes = record { front = []; parts = refl; leads = λ w name read before at. subst (λ (t : List ℕ). At name t before p w) (sym (append-nil read)) at }
 
-pub led_then : (p q h r : LineReader) (bytes rest line behind : List ℕ) → Led p bytes rest q → rest ≡ line ++ 10 ∷ behind → ((w : Option (List ℕ)) → Leads q w line h w) → EndsLine h true r → Led p bytes behind r
-led_then p q h r bytes rest line behind led cut holds ends = record {
-  front = led.front ++ (line ++ 10 ∷ []);
-  parts = led.parts ∙ ap (λ (t : List ℕ). led.front ++ t) (cut ∙ sym (append_assoc line (10 ∷ []) behind)) ∙ sym (append_assoc led.front (line ++ 10 ∷ []) behind);
-  leads = λ w. leads_then p q r w w w led.front (line ++ 10 ∷ []) (led.leads w) (leads_then q h r w w w line (10 ∷ []) (holds w) (leads_ended h r w ends));
+pub led_then : (p q r : LineReader) (bytes rest line behind : List ℕ) → Led p bytes rest q → rest ≡ line ++ behind → ((w : Option (List ℕ)) → Leads q w line r w) → Led p bytes behind r
+led_then p q r bytes rest line behind led cut leads = record {
+  front = led.front ++ line;
+  parts = led.parts ∙ ap (λ (t : List ℕ). led.front ++ t) cut ∙ sym (append_assoc led.front line behind);
+  leads = λ w. leads_then p q r w w w led.front line (led.leads w) (leads w);
 }
 
-pub led_rest : (p q r : LineReader) (bytes rest : List ℕ) → Led p bytes rest q → ((w : Option (List ℕ)) → Leads q w rest r w) → (w : Option (List ℕ)) → Leads p w bytes r w
-led_rest p q r bytes rest led leads = λ w. subst (λ (t : List ℕ). Leads p w t r w) (sym led.parts) (leads_then p q r w w w led.front rest (led.leads w) (leads w))
+-- the open line was ended
+pub ended_leads : (q h r : LineReader) (line : List ℕ) → ((w : Option (List ℕ)) → Leads q w line h w) → EndsLine h true r → (w : Option (List ℕ)) → Leads q w (line ++ 10 ∷ []) r w
+ended_leads q h r line holds ends w = leads_then q h r w w w line (10 ∷ []) (holds w) (leads_ended h r w ends)
+
+pub led_all : (p q : LineReader) (bytes rest : List ℕ) → Led p bytes rest q → rest ≡ [] → (w : Option (List ℕ)) → Leads p w bytes q w
+led_all p q bytes rest led none = λ w. subst (λ (t : List ℕ). Leads p w t q w) (sym (led.parts ∙ ap (λ (t : List ℕ). led.front ++ t) none ∙ append-nil led.front)) (led.leads w)
 
 -- the listing was written
 pub at_written : (name read : List ℕ) (before u v : Option (List ℕ)) (p q : LineReader) → At name read before p u → Writes p u q v → At name read before q v

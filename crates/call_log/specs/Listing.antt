@@ -4,15 +4,11 @@ use Rattle.std.specs.List.{concat, AllByRecursion}
 use Rattle.std.specs.Fmt.{decimal}
 use Rattle.std.specs.Io.KnownBytes.{Appends}
 use Rattle.uffd_log.specs.declared.line.Line.{Line}
-use Rattle.uffd_log.specs.Words.{HasNone}
+pub use Rattle.lines.specs.Lines.{HasNoFeed, joined}
 use Rattle.uffd_log.specs.Lines.{Spells}
 use Rattle.call_log.specs.declared.complete.ReadLog.{ReadLog}
 use Rattle.log_entries.specs.declared.log_line.LogLine.{LogLine}
 use Rattle.log_entries.specs.Readers.{HasRead}
-
--- no byte is a line feed
-abbrev pub HasNoFeed : List ℕ → Type 0
-HasNoFeed bytes = HasNone 10 bytes
 
 -- the text begins with this one
 abbrev pub BeginsWith : List ℕ → List ℕ → Type 0
@@ -56,11 +52,6 @@ Lists name number before [] text after = (text ≡ []) × (after ≡ before)
 Lists name number before (raw ∷ raws) text after =
     (texts : List (List ℕ)) × (more : List ℕ) × (mid : ℕ) × HasNoFeed raw × ListsLine name number before raw texts mid
     × (text ≡ concat texts ++ more) × Lists name (number + 1) mid raws more after
-
--- the bytes of lines with their line feeds
-abbrev pub joined : List (List ℕ) → List ℕ
-joined [] = []
-joined (raw ∷ raws) = raw ++ 10 ∷ joined raws
 
 -- what is listed at the end of a log, of which `count` lines end with a line feed and `heads` are of the head: a last line that lacks its line feed, and a head that is not whole
 pub record Ends (name : List ℕ) (count heads : ℕ) (last text : List ℕ) : Type 0 where

@@ -40,6 +40,10 @@ pub struct CallTable {
     pub(crate) own: IndexMap<u32, u32>,
     /// Processes, each with an object that it has found.
     pub(crate) met: IndexSet<(u32, u64)>,
+    /// The objects that the log has seen open, each with the process that opened it; and those of these whose process then began another program,
+    /// with the line of that: their address space is gone.
+    pub(crate) openers: IndexMap<u64, u32>,
+    pub(crate) gone: IndexMap<u64, u32>,
     /// The processes that were about to end, with the line of each.
     pub(crate) exits: IndexMap<u32, u32>,
     /// The number of the last line of a call.
@@ -105,6 +109,8 @@ impl CallTable {
             ends: Vec::new(alloc),
             own: IndexMap::new(alloc),
             met: IndexSet::new(alloc),
+            openers: IndexMap::new(alloc),
+            gone: IndexMap::new(alloc),
             exits: IndexMap::new(alloc),
             last_line: 1,
             command: Vec::new(alloc),
@@ -141,6 +147,30 @@ impl CallTable {
             kept.last = ended.last;
         }
         Ok(())
+    }
+
+    /// A process has opened an object.
+    pub(crate) fn note_opener(&mut self, object: u64, process: u32) -> Result<(), NoMemory> {
+        self.openers.insert(object, process)?;
+        Ok(())
+    }
+
+    /// A process begins another program at a line: the address space that its objects watch is gone.
+    pub(crate) fn lose_space(&mut self, process: u32, line: u32) -> Result<(), NoMemory> {
+        for (object, opener) in self.openers.iter() {
+            if *opener == process && !self.gone.contains_key(object) {
+                self.gone.insert(*object, line)?;
+            }
+        }
+        Ok(())
+    }
+
+    /// Whether the address space of an object was gone above a line.
+    pub(crate) fn is_gone(&self, object: u64, line: u32) -> bool {
+        match self.gone.get(&object) {
+            Some(gone) => *gone < line,
+            None => false,
+        }
     }
 
     /// The call at a place, of a log with these entries.

@@ -71,8 +71,6 @@ impl Met {
 struct Known {
     /// The ranges that were registered.
     ranges: IndexSet<Registered>,
-    /// The objects that the log has seen open, with the address space of each.
-    openers: IndexMap<u64, u32>,
     /// The objects that the log has seen open, and those whose handshake it has, where the rules speak of their faults.
     opened: IndexSet<u64>,
     shaken: IndexSet<u64>,
@@ -87,7 +85,6 @@ impl Known {
     fn new(alloc: Global) -> Known {
         Known {
             ranges: IndexSet::new(alloc),
-            openers: IndexMap::new(alloc),
             opened: IndexSet::new(alloc),
             shaken: IndexSet::new(alloc),
             found: IndexMap::new(alloc),
@@ -136,7 +133,6 @@ impl Known {
             }
             (Call::Open { .. }, Some(Answer::Opened(on))) => {
                 self.opened.insert(on.object)?;
-                self.openers.insert(on.object, call.space)?;
             }
             (Call::Api { on, .. }, Some(Answer::Features { .. })) => {
                 self.shaken.insert(on.object)?;
@@ -170,7 +166,7 @@ impl Known {
         for range in self.ranges.iter() {
             if range.meets(start, len) {
                 met = met.and(range.space);
-                if self.has_found(table, call.space, range.space) {
+                if has_found(table, call.space, range.space) {
                     found = found.and(range.space);
                 }
             }
@@ -181,18 +177,8 @@ impl Known {
         }
     }
 
-    /// Whether a process has found an object that was opened in an address space.
-    fn has_found(&self, table: &CallTable, process: u32, space: u32) -> bool {
-        for (met, object) in table.met.iter() {
-            if *met == process && self.openers.get(object) == Some(&space) {
-                return true;
-            }
-        }
-        false
-    }
-
-    /// Whether the rules speak of a call: not where the log has seen its object neither open nor make its handshake, and not where its range
-    /// is too long. A map call takes no more pages away than there are, and only mremap makes any registered.
+    /// Whether the rules speak of a call: not where the log has seen its object neither open nor make its handshake, or its address space is gone,
+    /// and not where its range is too long. A map call takes no more pages away than there are, and only mremap makes any registered.
     fn is_judged(&self, table: &CallTable, call: &LogCall) -> bool {
         if call.is_beyond_rules() {
             return false;
@@ -211,6 +197,7 @@ impl Known {
             }
         }
         match call.object() {
+            Some(object) if call.bytes().is_some() && table.is_gone(object, call.begin) => false,
             Some(object) => self.opened.contains(&object) || self.shaken.contains(&object),
             None => true,
         }
@@ -258,6 +245,16 @@ impl Known {
         }
         Ok(())
     }
+}
+
+/// Whether a process has found an object that was opened in an address space.
+fn has_found(table: &CallTable, process: u32, space: u32) -> bool {
+    for (met, object) in table.met.iter() {
+        if *met == process && table.openers.get(object) == Some(&space) {
+            return true;
+        }
+    }
+    false
 }
 
 /// Whether the log has seen the process of a call begin above it.

@@ -9,7 +9,7 @@ ghost use Rattle.call_log.specs.Reading.{At, Completes, EndsLine, Finished, IsWh
 use crate::complete::ReadLog;
 use crate::fault::LogFault;
 use crate::log_reader::{LONGEST_LINE, LogReader};
-use crate::split::split_line;
+use lines::Lines;
 use mig_base::NoMemory;
 use std::alloc::Global;
 use std::io::{Read, Write};
@@ -63,13 +63,13 @@ impl LineReader {
     fn feed(&mut self, bytes: &[u8]) -> Result<(), LogFault>
         ensures { OnOk result ((w : Option (List ℕ)) → Leads self.old w bytes.now self.new w) }
     {
-        let mut rest = bytes;
-        while let Some((front, behind)) = split_line(rest) {
-            self.hold(front)?;
-            self.end_line(true)?;
-            rest = behind;
+        for line in Lines::new(bytes) {
+            self.hold(line.raw)?;
+            if line.ended {
+                self.end_line(true)?;
+            }
         }
-        self.hold(rest)
+        Ok(())
     }
 
     /// Takes the last line, if it lacks its line feed.

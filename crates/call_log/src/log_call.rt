@@ -211,15 +211,18 @@ impl LogCall {
     }
 }
 
-/// Whether a call has put a page.
+/// Whether a call has put a page. A kernel that fails a call has done less than was asked for: a field with more has what the program had there.
 pub fn has_put(call: &LogCall) -> bool {
-    match call.answer {
-        Some(
-            Answer::Failed {
-                bytes: Some(bytes),
-                ..
-            },
-        ) => bytes > 0,
+    match (call.answer, call.bytes()) {
+        (
+            Some(
+                Answer::Failed {
+                    bytes: Some(done),
+                    ..
+                },
+            ),
+            Some((_, len)),
+        ) => 0 < done && done < len,
         _ => call.is_ok(),
     }
 }

@@ -1,5 +1,7 @@
 //! Pages: addresses of a log as numbers of pages, and ranges of them.
 
+ghost use Rattle.std.specs.Prelude.{◌≡◌, ◌+◌, ◌≤◌, ◌<◌, true};
+
 /// The most pages of a range that is judged: 64 GiB in pages of 4 KiB.
 pub const MOST_PAGES: u64 = 1 << 24;
 
@@ -68,12 +70,16 @@ impl PageSize {
 
 impl Range {
     /// The first page after the range.
-    pub fn end(self) -> u64 {
+    pub fn end(self) -> u64
+        ensures { (self.first ≤ result) × (result ≤ self.first + self.count) }
+    {
         self.first.saturating_add(self.count)
     }
 
     /// Whether a page is in the range.
-    pub fn contains(self, page: u64) -> bool {
+    pub fn contains(self, page: u64) -> bool
+        ensures { result ≡ true → (self.first ≤ page) × (page < self.first + self.count) }
+    {
         self.first <= page && page < self.end()
     }
 

@@ -171,6 +171,7 @@ impl CallReader {
     /// A process begins anew: its open calls never return.
     fn take_renewed(&mut self, pid: u32) -> Result<(), NoMemory> {
         self.processes.renew(pid);
+        self.table.lose_space(pid, self.line)?;
         self.table.exits.swap_remove(&pid);
         if !self.table.own.contains_key(&pid) {
             self.table.own.insert(pid, self.line)?;
@@ -294,7 +295,10 @@ impl CallReader {
                 self.processes.release(pid, on)?;
                 Ok(())
             }
-            (Call::Open { .. }, Answer::Opened(on)) => self.introduce(pid, on),
+            (Call::Open { .. }, Answer::Opened(on)) => {
+                self.table.note_opener(on.object, pid)?;
+                self.introduce(pid, on)
+            }
             (Call::Dup { on, target }, Answer::Value(fd)) => self.duplicate(pid, on, target, fd),
             _ => Ok(()),
         }

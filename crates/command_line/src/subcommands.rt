@@ -14,9 +14,9 @@ const STATUSES: &str = "Exit status:
   1  a line, a frame or the command line is wrong
   2  a read or a write failed
   3  a check or a history wrote wrong, a test differs, finish has no epoch left, threads ended with a
-     fault; with --strict also: a frame was refused
+     fault, explore --all found a dead end; with --strict also: a frame was refused
   4  memory ran out, or a thread could not be started
-  5  a history was not decided
+  5  a history was not decided, or a small world has more states than explore --all was to find
   6  nothing was looked at: a test compared no answer, lint, draw or show found no line of a script,
      a history has no operation; with --strict also: no entry was checked, there was no frame, or a
      script of a test has no answer
@@ -221,12 +221,16 @@ const PROFILES: &[&str] = &[
     "commands", "precopy", "postcopy", "moves", "breaks", "urgent", "bytes", "runs", "all",
 ];
 
+/// What asks for random scripts.
+const RANDOM: &[&str] = &["seed", "seeds"];
+
 /// `postmig explore --seed S [--lines N] [--cpus N] [--profile P] [--pages M] [--finish] [--sweep] [--answers] [--explain]`, or with
-/// `--seeds A:B` in place of `--seed S`. Scripts of earlier versions have `--steps` in place of `--lines`.
+/// `--seeds A:B` in place of `--seed S`. Scripts of earlier versions have `--steps` in place of `--lines`. And
+/// `postmig explore --all [--cpus N] [--pages M] [--breaks N] [--rounds N] [--commands N] [--states N] [--out FOLDER]`.
 const EXPLORE: &[Argument] = &[
     Argument {
         id: "seed",
-        help: "The seed of the draws; it or --seeds must be given",
+        help: "The seed of the draws; it, --seeds or --all must be given",
         form: Form::Valued("S", ANY_NUMBER),
         ..PLAIN
     },
@@ -244,7 +248,12 @@ const EXPLORE: &[Argument] = &[
         aliases: &["steps"],
         ..PLAIN
     },
-    CPUS,
+    Argument {
+        id: "cpus",
+        help: "How many processors the guest has: 2, or 1 with --all, if it is not given",
+        form: Form::Valued("N", ValueParser::Signed(1, 16)),
+        ..PLAIN
+    },
     Argument {
         id: "profile",
         help: "Which steps are drawn more often",
@@ -253,8 +262,8 @@ const EXPLORE: &[Argument] = &[
     },
     Argument {
         id: "pages",
-        help: "The number of pages that the commands touch",
-        form: Form::Preset("M", ValueParser::Signed(1, 4096), "8"),
+        help: "The number of pages that the commands touch: 8, or 1 with --all, if it is not given",
+        form: Form::Valued("M", ValueParser::Signed(1, 4096)),
         ..PLAIN
     },
     Argument {
@@ -270,6 +279,54 @@ const EXPLORE: &[Argument] = &[
     Argument {
         id: "answers",
         help: "Writes the answer of each line after it",
+        ..PLAIN
+    },
+    Argument {
+        id: "all",
+        help: "Walks all schedules of a small world, and counts its states",
+        conflicts: &[
+            "seed", "seeds", "lines", "profile", "finish", "sweep", "answers",
+        ],
+        ..PLAIN
+    },
+    Argument {
+        id: "breaks",
+        help: "How often the channel of the small world may break: 1 if it is not given",
+        form: Form::Valued("N", ValueParser::Signed(0, 1000)),
+        conflicts: RANDOM,
+        needs: &["all"],
+        ..PLAIN
+    },
+    Argument {
+        id: "rounds",
+        help: "How many rounds of pre-copy it may have: 1 if it is not given",
+        form: Form::Valued("N", ValueParser::Signed(0, 1000)),
+        conflicts: RANDOM,
+        needs: &["all"],
+        ..PLAIN
+    },
+    Argument {
+        id: "commands",
+        help: "How many commands each of its processors makes, 0 to 3: 1 if it is not given",
+        form: Form::Valued("N", ValueParser::Signed(0, 3)),
+        conflicts: RANDOM,
+        needs: &["all"],
+        ..PLAIN
+    },
+    Argument {
+        id: "states",
+        help: "Ends at more states, each of which takes some 70 KB: 20000 if it is not given",
+        form: Form::Valued("N", ValueParser::Signed(1, 0xffff_ffff)),
+        conflicts: RANDOM,
+        needs: &["all"],
+        ..PLAIN
+    },
+    Argument {
+        id: "out",
+        help: "Gets for each step and each refusal of it the shortest script that reaches it",
+        form: Form::Valued("FOLDER", ValueParser::String),
+        conflicts: RANDOM,
+        needs: &["all"],
         ..PLAIN
     },
     EXPLAIN_FAULTS,

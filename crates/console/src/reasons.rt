@@ -2,10 +2,11 @@
 
 use crate::bounded::{Bounded, LONGEST_LISTED};
 use crate::paint::{Painted, paint_for};
-use engine::script_reader::{MAX_LINE, split_line, without_return};
+use engine::script_reader::MAX_LINE;
 use expected::order_part;
 use grammar::parse::parse;
 use grammar::{Language, Token};
+use lines::Lines;
 use lint::{lint_lines, reason_of};
 use std::fs::File;
 use std::io::{Read, Stderr, Write};
@@ -27,12 +28,11 @@ impl Write for OneLine {
         if self.has_ended {
             return Ok(0);
         }
-        let Some((line, _)) = split_line(buf) else {
-            return self.stderr.write(buf);
+        let Some(line) = Lines::new(buf).next() else {
+            return Ok(0);
         };
-        let end = line.len().saturating_add(1).min(buf.len());
-        let count = self.stderr.write(&buf[..end])?;
-        self.has_ended = count == end;
+        let count = self.stderr.write(line.whole)?;
+        self.has_ended = line.ended && count == line.whole.len();
         Ok(count)
     }
 
@@ -73,19 +73,6 @@ pub(crate) fn say_wrong_lines(rt: &HostRuntime, given: Given<'_>, language: Lang
     let _ = lint_lines(rt.alloc(), &mut file, &mut one, name, language);
 }
 
-/// The text of the line with this number, counted from 1.
-fn line_at(text: &[u8], number: u64) -> Option<&[u8]> {
-    let mut rest = text;
-    for _ in 1..number {
-        let (_, after) = split_line(rest)?;
-        rest = after;
-    }
-    match split_line(rest) {
-        Some((raw, _)) => Some(without_return(raw)),
-        None => Some(rest),
-    }
-}
-
 /// Writes what is wrong with a line of a test. The tokens are replaced.
 pub(crate) fn write_reason<W: Write>(
     writer: &mut W,
@@ -122,8 +109,8 @@ pub fn say_wrong_line(rt: &HostRuntime, name: &str, number: u64) {
     {
         return;
     }
-    if let Some(line) = line_at(&text, number) {
+    if let Some(line) = Lines::new(&text).find(|line| line.number == number) {
         let mut tokens = Vec::new(rt.alloc());
-        let _ = write_reason(&mut rt.stderr(), &mut tokens, name, number, line);
+        let _ = write_reason(&mut rt.stderr(), &mut tokens, name, number, line.text());
     }
 }

@@ -1,10 +1,11 @@
 //! A script that is typed at a terminal.
 
 use crate::reasons::write_reason;
-use engine::script_reader::{MAX_LINE, split_line, without_return};
+use engine::script_reader::MAX_LINE;
 use expected::order_part;
 use grammar::parse::parse;
 use grammar::{Language, Line, Token};
+use lines::{Lines, without_return};
 use lint::reason_of;
 use std::alloc::Global;
 use std::io;
@@ -90,15 +91,13 @@ impl Terminal {
         let count = self.stdin.read(&mut piece)?;
         self.ready.clear();
         self.passed = 0;
-        let mut rest = piece.get(..count).unwrap_or(&[]);
-        for _ in 0..count {
-            let Some((line, after)) = split_line(rest) else {
-                break;
-            };
-            self.take_line(line)?;
-            rest = after;
+        for line in Lines::new(piece.get(..count).unwrap_or(&[])) {
+            if line.ended {
+                self.take_line(line.raw)?;
+            } else {
+                self.ready.extend_from_slice(line.raw)?;
+            }
         }
-        self.ready.extend_from_slice(rest)?;
         Ok(count)
     }
 

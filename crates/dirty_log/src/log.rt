@@ -1,6 +1,6 @@
 //! The type that callers see: what a source knows about its pages.
 
-ghost use Rattle.std.specs.Prelude.{◌≡◌, [], length, IfOk};
+ghost use Rattle.std.specs.Prelude.{◌≡◌, ◌↔◌, true, [], length, IfOk};
 ghost use Rattle.mig_model.specs.Bounds.{ArePages};
 ghost use Rattle.mig_model.specs.Log as machine;
 
@@ -12,7 +12,7 @@ use mig_base::{NoMemory, PageNo, PageSet};
 use std::alloc::Global;
 use std::collections::VecDeque;
 use std::marker::Model;
-use uffd_ioctl::{PageFault, copy_faults};
+use uffd_ioctl::{PageFault, are_same_faults, copy_faults};
 
 /// What a source knows about its pages, and the faults that its handler holds.
 ///
@@ -72,6 +72,16 @@ impl DirtyLog {
             sent: self.sent.copy()?,
             held: copy_faults(self.alloc, &self.held)?,
         })
+    }
+
+    /// Whether both logs know the same of their pages, and hold the same faults in the same order.
+    pub fn is_same(&self, other: &Self) -> bool
+        ensures { (result ≡ true) ↔ (self.now ≡ other.now) }
+    {
+        self.clean.is_same(&other.clean)
+            && self.todo.is_same(&other.todo)
+            && self.sent.is_same(&other.sent)
+            && are_same_faults(&self.held, &other.held)
     }
 
     /// The pages whose newest copy sent is still right, as far as the source knows.

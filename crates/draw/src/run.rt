@@ -8,27 +8,12 @@ use crate::recorder::Recorder;
 use diagram::paint;
 use engine::RunFault;
 use engine::line_runner::write_out;
-use engine::script_reader::{MAX_LINE, split_line, without_return};
+use engine::whole_input::{read_whole, short_text};
 use grammar::parse::parse;
 use grammar::{Language, Line, Token};
+use lines::Lines;
 use std::alloc::Global;
-use std::io::{ErrorKind, Read, Write};
-
-/// The fault of a read that failed so.
-fn fault_of(kind: ErrorKind) -> RunFault {
-    match kind {
-        ErrorKind::OutOfMemory => RunFault::NoMemory,
-        _ => RunFault::ReadFault,
-    }
-}
-
-/// Appends all that a reader has to the bytes.
-fn read_whole<R: Read>(reader: &mut R, bytes: &mut Vec<u8>) -> Result<(), RunFault> {
-    match reader.read_to_end(bytes) {
-        Ok(_) => Ok(()),
-        Err(error) => Err(fault_of(error.kind())),
-    }
-}
+use std::io::{Read, Write};
 
 /// Does the line with this number and text. The tokens are replaced.
 fn do_line(
@@ -37,9 +22,6 @@ fn do_line(
     number: u64,
     text: &[u8],
 ) -> Result<(), RunFault> {
-    if text.len() > MAX_LINE {
-        return Err(RunFault::Line(number));
-    }
     let Some(line) = parse(Language::Script, tokens, text)? else {
         return Err(RunFault::Line(number));
     };
@@ -54,20 +36,10 @@ fn do_line(
 /// Does all lines of a script.
 fn do_lines(alloc: Global, recorder: &mut Recorder, input: &[u8]) -> Result<(), RunFault> {
     let mut tokens = Vec::new(alloc);
-    let mut rest = input;
-    let mut number = 1u64;
-    while let Some((raw, behind)) = split_line(rest) {
-        if raw.len() > MAX_LINE {
-            return Err(RunFault::Line(number));
-        }
-        do_line(recorder, &mut tokens, number, without_return(raw))?;
-        number = number.saturating_add(1);
-        rest = behind;
+    for line in Lines::new(input) {
+        do_line(recorder, &mut tokens, line.number, short_text(line)?)?;
     }
-    if rest.is_empty() {
-        return Ok(());
-    }
-    do_line(recorder, &mut tokens, number, rest)
+    Ok(())
 }
 
 /// The picture of a script.

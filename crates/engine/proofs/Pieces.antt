@@ -20,33 +20,23 @@ pub record Feeds (a : Place) (bytes rest : List ℕ) (b : Place) : Type 0 where
   pub parts : bytes ≡ front ++ rest
   pub fed : Fed a front b
 
-pub parts_then : (bytes front rest line behind : List ℕ) → bytes ≡ front ++ rest → rest ≡ line ++ 10 ∷ behind → bytes ≡ (front ++ (line ++ 10 ∷ [])) ++ behind
-parts_then bytes front rest line behind e cut =
-    e ∙ ap (λ (t : List ℕ). front ++ t) (cut ∙ sym (append_assoc line (10 ∷ []) behind)) ∙ sym (append_assoc front (line ++ 10 ∷ []) behind)
+pub parts_then : (bytes front rest line behind : List ℕ) → bytes ≡ front ++ rest → rest ≡ line ++ behind → bytes ≡ (front ++ line) ++ behind
+parts_then bytes front rest line behind e cut = e ∙ ap (λ (t : List ℕ). front ++ t) cut ∙ sym (append_assoc front line behind)
 
-pub feeds_line : (a b c : Place) (bytes rest line behind : List ℕ) → Feeds a bytes rest b → rest ≡ line ++ 10 ∷ behind → Fed b (line ++ 10 ∷ []) c → Feeds a bytes behind c
+pub feeds_line : (a b c : Place) (bytes rest line behind : List ℕ) → Feeds a bytes rest b → rest ≡ line ++ behind → Fed b line c → Feeds a bytes behind c
 feeds_line a b c bytes rest line behind so_far cut fed = record {
-  front = so_far.front ++ (line ++ 10 ∷ []);
+  front = so_far.front ++ line;
   parts = parts_then bytes so_far.front rest line behind so_far.parts cut;
-  fed = fed_then a b c so_far.front (line ++ 10 ∷ []) so_far.fed fed;
+  fed = fed_then a b c so_far.front line so_far.fed fed;
 }
 
-pub feeds_until : (a b : Place) (bytes rest line behind output : List ℕ) (fault : RunFault) → Feeds a bytes rest b → rest ≡ line ++ 10 ∷ behind → FedUntil b (line ++ 10 ∷ []) fault output
-    → FedUntil a bytes fault output
+pub feeds_until : (a b : Place) (bytes rest line behind output : List ℕ) (fault : RunFault) → Feeds a bytes rest b → rest ≡ line ++ behind → FedUntil b line fault output → FedUntil a bytes fault output
 feeds_until a b bytes rest line behind output fault so_far cut until =
     subst (λ (t : List ℕ). FedUntil a t fault output) (sym (parts_then bytes so_far.front rest line behind so_far.parts cut))
-    (until_more a (so_far.front ++ (line ++ 10 ∷ [])) behind output fault (until_then a b so_far.front (line ++ 10 ∷ []) output fault so_far.fed until))
+    (until_more a (so_far.front ++ line) behind output fault (until_then a b so_far.front line output fault so_far.fed until))
 
-pub feeds_rest : {T E : Type 0} (held : Result T E) (a b c : Place) (bytes rest : List ℕ) → Feeds a bytes rest b → OnOk held (c ≡ record b { line = b.line ++ rest }) → OnOk held (Fed a bytes c)
-feeds_rest (Err x) a b c bytes rest so_far e = tt
-feeds_rest (Ok x) a b c bytes rest so_far e =
-    subst (λ (t : List ℕ). Fed a t c) (sym so_far.parts) (fed_then a b c so_far.front rest so_far.fed (fed_held b c rest e))
-
-pub feeds_rest_until : {T : Type 0} (held : Result T RunFault) (a b : Place) (bytes rest output : List ℕ) → Feeds a bytes rest b → IfErr held (λ fault. FedUntil b rest fault output)
-    → IfErr held (λ fault. FedUntil a bytes fault output)
-feeds_rest_until (Ok x) a b bytes rest output so_far until = tt
-feeds_rest_until (Err fault) a b bytes rest output so_far until =
-    subst (λ (t : List ℕ). FedUntil a t fault output) (sym so_far.parts) (until_then a b so_far.front rest output fault so_far.fed until)
+pub feeds_all : (a b : Place) (bytes rest : List ℕ) → Feeds a bytes rest b → rest ≡ [] → Fed a bytes b
+feeds_all a b bytes rest so_far none = subst (λ (t : List ℕ). Fed a t b) (sym (so_far.parts ∙ ap (λ (t : List ℕ). so_far.front ++ t) none ∙ append-nil so_far.front)) so_far.fed
 
 -- ---- the output of a piece
 

@@ -5,7 +5,7 @@ use Rattle.std.specs.Io.KnownBytes.{Appends, Keeps, Consumes, IsAtEnd}
 use Rattle.std.proofs.KnownBytes.{Appends-nil, Appends-trans, Consumes-nil, Consumes-trans, Consumes-kept}
 use Rattle.std.proofs.lemmas.List.{nil_from_length}
 use Rattle.grammar.specs.Lines.{HasNoFeed}
-use Rattle.grammar.proofs.Cuts.{no_feed-append}
+use Rattle.lines.proofs.Cuts.{joined_push, no_feed-append}
 use Rattle.engine.specs.declared.fault.RunFault.{RunFault}
 use Rattle.engine.specs.declared.fault.RunFault.TheVariants as faults
 use Rattle.engine.specs.declared.line_reader.LineReader.{LineReader}
@@ -14,10 +14,6 @@ use Rattle.engine.specs.Lines.{RawLine, held_line, raw_line, LineFault, TakesAll
 use Rattle.engine.specs.Reading.{IsHeld, open_line, Adds, Ended, At, Leads, BreaksIn, StopsIn}
 use Rattle.engine.proofs.Pieces.{parts_then}
 use Rattle.engine.proofs.Whole.{input_is}
-
-joined_push : (raws : List (List ℕ)) (raw : List ℕ) → joined (raws ++ raw ∷ []) ≡ joined raws ++ (raw ++ 10 ∷ [])
-joined_push [] raw = refl
-joined_push (first ∷ raws) raw = ap (λ (t : List ℕ). first ++ 10 ∷ t) (joined_push raws raw) ∙ sym (append_assoc first (10 ∷ joined raws) (raw ++ 10 ∷ []))
 
 open_is : (p : LineReader) (ended : Bool) (held : List ℕ) → IsHeld p held → open_line p ended ≡ raw_line held ended
 open_is p ended held is = λ i. held_line (is.0 i) (is.1 i) ended
@@ -94,16 +90,16 @@ module _ {S : Type 0} (takes : S → ℕ → RawLine → S → List ℕ → Type
   pub led_none : (a : S) (p : LineReader) (bytes : List ℕ) → Led takes a p bytes bytes a p
   led_none a p bytes = record { front = []; parts = refl; leads = λ w start read before at. subst (λ (t : List ℕ). At takes start t before a p w) (sym (append-nil read)) at }
 
-  pub led_then : (a : S) (p : LineReader) (b : S) (q : LineReader) (c : S) (r : LineReader) (bytes rest line behind : List ℕ) → Led takes a p bytes rest b q → rest ≡ line ++ 10 ∷ behind
-      → ((w : Option (List ℕ)) → Leads takes b q w (line ++ 10 ∷ []) c r w) → Led takes a p bytes behind c r
+  pub led_then : (a : S) (p : LineReader) (b : S) (q : LineReader) (c : S) (r : LineReader) (bytes rest line behind : List ℕ) → Led takes a p bytes rest b q → rest ≡ line ++ behind
+      → ((w : Option (List ℕ)) → Leads takes b q w line c r w) → Led takes a p bytes behind c r
   led_then a p b q c r bytes rest line behind led cut leads = record {
-    front = led.front ++ (line ++ 10 ∷ []);
+    front = led.front ++ line;
     parts = parts_then bytes led.front rest line behind led.parts cut;
-    leads = λ w. leads_then a p b q c r w w w led.front (line ++ 10 ∷ []) (led.leads w) (leads w);
+    leads = λ w. leads_then a p b q c r w w w led.front line (led.leads w) (leads w);
   }
 
-  pub led_rest : (a : S) (p : LineReader) (b : S) (q : LineReader) (c : S) (r : LineReader) (bytes rest : List ℕ) → Led takes a p bytes rest b q → ((w : Option (List ℕ)) → Leads takes b q w rest c r w) → (w : Option (List ℕ)) → Leads takes a p w bytes c r w
-  led_rest a p b q c r bytes rest led leads = λ w. subst (λ (t : List ℕ). Leads takes a p w t c r w) (sym led.parts) (leads_then a p b q c r w w w led.front rest (led.leads w) (leads w))
+  pub led_all : (a : S) (p : LineReader) (b : S) (q : LineReader) (bytes rest : List ℕ) → Led takes a p bytes rest b q → rest ≡ [] → (w : Option (List ℕ)) → Leads takes a p w bytes b q w
+  led_all a p b q bytes rest led none = λ w. subst (λ (t : List ℕ). Leads takes a p w t b q w) (sym (led.parts ∙ ap (λ (t : List ℕ). led.front ++ t) none ∙ append-nil led.front)) (led.leads w)
 
   -- the output was written
   pub leads_written : (a : S) (p : LineReader) (b : S) (q r : LineReader) (u v w : Option (List ℕ)) (bytes : List ℕ) → Leads takes a p u bytes b q v → Appends v w q.output.items

@@ -1,10 +1,9 @@
 -- Lines that are read one after the other, and handed to a sink.
 use Rattle.std.specs.Prelude.{◌≡◌, ℕ, ◌+◌, ◌<◌, ◌≤◌, ◌⊎◌, Bool, true, false, List, [], ◌∷◌, ◌++◌, length, take, Option, IfSome, ⊤}
-use Rattle.std.specs.Str.Lines.{strip_carriage_return}
 use Rattle.std.specs.Io.KnownBytes.{Appends}
 use Rattle.grammar.specs.declared.line.Language.{Language}
 use Rattle.grammar.specs.declared.line.Line.{Line}
-use Rattle.grammar.specs.Lines.{HasNoFeed}
+pub use Rattle.lines.specs.Lines.{HasNoFeed, line_text, joined}
 use Rattle.grammar.specs.Spelling.{Spells}
 use Rattle.engine.specs.declared.fault.RunFault.{RunFault}
 use Rattle.engine.specs.declared.fault.RunFault.TheVariants as faults
@@ -25,11 +24,6 @@ held_line front len ended = record { front = front; len = len; ended = ended }
 abbrev pub raw_line : List ℕ → Bool → RawLine
 raw_line bytes ended = held_line (take 256 bytes) (length bytes) ended
 
--- the text of a line: a carriage return before its line feed is no part of it
-abbrev pub line_text : Bool → List ℕ → List ℕ
-line_text true bytes = strip_carriage_return bytes
-line_text false bytes = bytes
-
 -- the line spells this one of the language
 abbrev pub SpellsRaw : Language → RawLine → Line → Type 0
 SpellsRaw language raw line = (raw.len ≤ 256) × Spells language (line_text raw.ended raw.front) line
@@ -40,6 +34,13 @@ LineFault Wrong number (faults.Line n) = (n ≡ number) × Wrong
 LineFault Wrong number faults.ReadFault = ⊥
 LineFault Wrong number faults.WriteFault = ⊥
 LineFault Wrong number faults.NoMemory = ⊤
+
+-- a whole input was not read: a read failed, or memory ran out
+abbrev pub IsReadFault : RunFault → Type 0
+IsReadFault (faults.Line n) = ⊥
+IsReadFault faults.ReadFault = ⊤
+IsReadFault faults.WriteFault = ⊥
+IsReadFault faults.NoMemory = ⊤
 
 -- Lines that a sink took. `takes` relates its state, the number of a line, the line, its state after it, and the output
 
@@ -53,11 +54,6 @@ abbrev pub TakesAll : {S : Type 0} → (S → ℕ → RawLine → S → List ℕ
 TakesAll takes old n [] last new text = TakesLast takes old n last new text
 TakesAll {S} takes old n (raw ∷ raws) last new text = (mid : S) × (out : List ℕ) × (more : List ℕ)
     × HasNoFeed raw × takes old n (raw_line raw true) mid out × (text ≡ out ++ more) × TakesAll takes mid (n + 1) raws last new more
-
--- the bytes of lines with their line feeds
-abbrev pub joined : List (List ℕ) → List ℕ
-joined [] = []
-joined (raw ∷ raws) = raw ++ 10 ∷ joined raws
 
 -- the first lines of an input were taken, and `rest` is left of it; of their output `more` was not written
 pub record Taken {S : Type 0} (takes : S → ℕ → RawLine → S → List ℕ → Type 0) (start : S) (input last more : List ℕ) (before after : Option (List ℕ)) : Type 0 where

@@ -2,25 +2,19 @@
 
 ghost use Rattle.std.specs.Prelude.{◌≡◌, ◌+◌, ◌<◌, ◌≤◌, ◌^◌, ◌++◌, ◌∷◌, ℕ, List, [], length, Option, Some, true, OnOk, OnErr, IfErr, IfSome};
 ghost use Rattle.grammar.specs.Lines.{HasNoFeed};
-ghost use Rattle.engine.specs.Lines.{RawLine, held_line, line_text, LineFault, Finishes, Breaks, Stops};
+ghost use Rattle.engine.specs.Lines.{RawLine, held_line, LineFault, Finishes, Breaks, Stops};
 ghost use Rattle.engine.specs.Reading.{open_line, Adds, Ended, At, Leads, BreaksIn, StopsIn};
 
 use crate::fault::RunFault;
 use crate::line_runner::write_out;
-use crate::script_reader::{MAX_LINE, split_line, without_return};
+use crate::script_reader::MAX_LINE;
+use lines::Lines;
 use mig_base::NoMemory;
 use std::alloc::Global;
 use std::io::{Read, Write};
 
 /// The most bytes that are read at once.
 const PIECE: usize = 16_384;
-
-/// The text of a line: a carriage return at its end is no part of it where a line feed follows.
-pub fn text_of(raw: &[u8], ended: bool) -> &[u8]
-    ensures { result.now ≡ line_text ended raw.now }
-{
-    if ended { without_return(raw) } else { raw }
-}
 
 /// What the lines of an input are handed to, one after the other.
 pub trait LineSink {
@@ -160,12 +154,14 @@ impl LineReader {
         ensures fault { IfErr result (λ fault. (w : Option (List ℕ)) →
             BreaksIn S.takes S.refuses sink.old self.old bytes.now self.new.output.items fault w) }
     {
-        let mut rest = bytes;
-        while let Some((front, behind)) = split_line(rest) {
-            self.end_whole(sink, front)?;
-            rest = behind;
+        for line in Lines::new(bytes) {
+            if line.ended {
+                self.end_whole(sink, line.raw)?;
+            } else {
+                self.keep_open(sink, line.raw)?;
+            }
         }
-        self.keep_open(sink, rest)
+        Ok(())
     }
 
     /// Hands over the last line, if it lacks its line feed, and gathers its output.

@@ -1,13 +1,12 @@
 //! Reading a script or a transcript: where its lines end, and their numbers.
 
 ghost use Rattle.std.specs.Prelude.{◌≡◌, ◌+◌, ◌<◌, ◌≤◌, ◌^◌, ◌++◌, ◌↔◌, ◌≢◌, IsTrue, ℕ, List, [], ◌∷◌, length, Some, None, OnOk, IfErr, IfSome, IfNone, vec_len};
-ghost use Rattle.std.specs.Str.Lines.{strip_carriage_return};
 ghost use Rattle.grammar.specs.Lines.{HasNoFeed};
 ghost use Rattle.engine.specs.Engine.{Place, coded_place, kept_entries, run_world, start_of, Fed, FedUntil, Passes, Halts, Closes, CloseFault};
 
 use crate::fault::RunFault;
 use crate::line_runner::LineRunner;
-use memchr::memchr;
+use lines::{Lines, without_return};
 use mig_base::Entry;
 use std::alloc::Global;
 use std::io::Write;
@@ -16,26 +15,6 @@ use world::World;
 
 /// The most bytes of a line, without its line feed.
 pub const MAX_LINE: usize = 256;
-
-/// A line before its line feed, without a carriage return at its end.
-pub fn without_return(raw: &[u8]) -> &[u8]
-    ensures { result.now ≡ strip_carriage_return raw.now }
-{
-    match raw {
-        [text @ .., b'\r'] => text,
-        _ => raw,
-    }
-}
-
-/// The bytes before the first line feed, and those after it.
-pub fn split_line(bytes: &[u8]) -> Option<(&[u8], &[u8])>
-    ensures front { IfSome result (λ parts. HasNoFeed parts.0.now) }
-    ensures whole { IfSome result (λ parts. bytes.now ≡ parts.0.now ++ 10 ∷ parts.1.now) }
-    ensures none { IfNone result (HasNoFeed bytes.now) }
-{
-    let end = memchr(b'\n', bytes)?;
-    Some((&bytes[..end], &bytes[end + 1..]))
-}
 
 /// A script or a transcript that is being read.
 #[derive(Drop)]
@@ -172,12 +151,14 @@ impl ScriptReader {
         ensures number { OnOk result (self.new.number ≤ self.old.number + length bytes.now) }
         ensures fault { IfErr result (λ fault. FedUntil self.old bytes.now fault self.new.output) }
     {
-        let mut rest = bytes;
-        while let Some((front, behind)) = split_line(rest) {
-            self.end_line(front)?;
-            rest = behind;
+        for line in Lines::new(bytes) {
+            if line.ended {
+                self.end_line(line.raw)?;
+            } else {
+                self.hold(line.raw)?;
+            }
         }
-        self.hold(rest)
+        Ok(())
     }
 
     /// Takes the next bytes, does each line that ends in them, and writes the output.

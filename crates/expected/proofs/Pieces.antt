@@ -151,37 +151,32 @@ pub record Fed (cpus : ℕ) (front bytes rest : List ℕ) (b : Tester) : Type 0 
   pub ran : Ran cpus (front ++ read) b
 
 -- one line more
-pub whole_line : (front bytes read rest line behind : List ℕ) → bytes ≡ read ++ rest → rest ≡ line ++ 10 ∷ behind → front ++ bytes ≡ ((front ++ read) ++ (line ++ 10 ∷ [])) ++ behind
+pub whole_line : (front bytes read rest line behind : List ℕ) → bytes ≡ read ++ rest → rest ≡ line ++ behind → front ++ bytes ≡ ((front ++ read) ++ line) ++ behind
 whole_line front bytes read rest line behind parts cut =
-    ap (λ (t : List ℕ). front ++ t) (parts ∙ ap (λ (t : List ℕ). read ++ t) (cut ∙ sym (append_assoc line (10 ∷ []) behind)))
-    ∙ sym (append_assoc front read ((line ++ 10 ∷ []) ++ behind))
-    ∙ sym (append_assoc (front ++ read) (line ++ 10 ∷ []) behind)
+    ap (λ (t : List ℕ). front ++ t) (parts ∙ ap (λ (t : List ℕ). read ++ t) cut)
+    ∙ sym (append_assoc front read (line ++ behind))
+    ∙ sym (append_assoc (front ++ read) line behind)
 
-pub fed_line : (cpus : ℕ) (front bytes rest line behind : List ℕ) (a b : Tester) (fed : Fed cpus front bytes rest a) → rest ≡ line ++ 10 ∷ behind → Ran cpus ((front ++ fed.read) ++ (line ++ 10 ∷ [])) b → Fed cpus front bytes behind b
+pub fed_line : (cpus : ℕ) (front bytes rest line behind : List ℕ) (a b : Tester) (fed : Fed cpus front bytes rest a) → rest ≡ line ++ behind → Ran cpus ((front ++ fed.read) ++ line) b → Fed cpus front bytes behind b
 fed_line cpus front bytes rest line behind a b fed cut ran = record {
-  read = fed.read ++ (line ++ 10 ∷ []);
-  parts = fed.parts ∙ ap (λ (t : List ℕ). fed.read ++ t) (cut ∙ sym (append_assoc line (10 ∷ []) behind)) ∙ sym (append_assoc fed.read (line ++ 10 ∷ []) behind);
-  ran = subst (λ (t : List ℕ). Ran cpus t b) (append_assoc front fed.read (line ++ 10 ∷ [])) ran;
+  read = fed.read ++ line;
+  parts = fed.parts ∙ ap (λ (t : List ℕ). fed.read ++ t) cut ∙ sym (append_assoc fed.read line behind);
+  ran = subst (λ (t : List ℕ). Ran cpus t b) (append_assoc front fed.read line) ran;
 }
 
-pub fed_fault : (cpus : ℕ) (front bytes rest line behind : List ℕ) (a : Tester) (fault : RunFault) (fed : Fed cpus front bytes rest a) → rest ≡ line ++ 10 ∷ behind → FaultIn cpus ((front ++ fed.read) ++ (line ++ 10 ∷ [])) fault → FaultIn cpus (front ++ bytes) fault
+pub fed_fault : (cpus : ℕ) (front bytes rest line behind : List ℕ) (a : Tester) (fault : RunFault) (fed : Fed cpus front bytes rest a) → rest ≡ line ++ behind → FaultIn cpus ((front ++ fed.read) ++ line) fault → FaultIn cpus (front ++ bytes) fault
 fed_fault cpus front bytes rest line behind a fault fed cut f =
-    fault_at cpus _ _ fault (sym (whole_line front bytes fed.read rest line behind fed.parts cut)) (fault_more cpus ((front ++ fed.read) ++ (line ++ 10 ∷ [])) behind fault f)
+    fault_at cpus _ _ fault (sym (whole_line front bytes fed.read rest line behind fed.parts cut)) (fault_more cpus ((front ++ fed.read) ++ line) behind fault f)
 
-pub fed_unmet : (name : List ℕ) (cpus : ℕ) (front bytes rest line behind : List ℕ) (answers : ℕ) (report : List ℕ) (a : Tester) (fed : Fed cpus front bytes rest a) → rest ≡ line ++ 10 ∷ behind
-    → ((more : List ℕ) → Unmet name cpus (((front ++ fed.read) ++ (line ++ 10 ∷ [])) ++ more) answers report) → (more : List ℕ) → Unmet name cpus ((front ++ bytes) ++ more) answers report
+pub fed_unmet : (name : List ℕ) (cpus : ℕ) (front bytes rest line behind : List ℕ) (answers : ℕ) (report : List ℕ) (a : Tester) (fed : Fed cpus front bytes rest a) → rest ≡ line ++ behind
+    → ((more : List ℕ) → Unmet name cpus (((front ++ fed.read) ++ line) ++ more) answers report) → (more : List ℕ) → Unmet name cpus ((front ++ bytes) ++ more) answers report
 fed_unmet name cpus front bytes rest line behind answers report a fed cut f more =
     subst (λ (t : List ℕ). Unmet name cpus (t ++ more) answers report) (sym (whole_line front bytes fed.read rest line behind fed.parts cut))
-    (unmet_more name cpus ((front ++ fed.read) ++ (line ++ 10 ∷ [])) behind answers report f more)
+    (unmet_more name cpus ((front ++ fed.read) ++ line) behind answers report f more)
 
-whole_rest : (front bytes read rest : List ℕ) → bytes ≡ read ++ rest → (front ++ read) ++ rest ≡ front ++ bytes
-whole_rest front bytes read rest parts = append_assoc front read rest ∙ ap (λ (t : List ℕ). front ++ t) (sym parts)
-
-pub fed_rest : (cpus : ℕ) (front bytes rest : List ℕ) (a b : Tester) (fed : Fed cpus front bytes rest a) → Ran cpus ((front ++ fed.read) ++ rest) b → Ran cpus (front ++ bytes) b
-fed_rest cpus front bytes rest a b fed ran = subst (λ (t : List ℕ). Ran cpus t b) (whole_rest front bytes fed.read rest fed.parts) ran
-
-pub fed_rest_fault : (cpus : ℕ) (front bytes rest : List ℕ) (a : Tester) (fault : RunFault) (fed : Fed cpus front bytes rest a) → FaultIn cpus ((front ++ fed.read) ++ rest) fault → FaultIn cpus (front ++ bytes) fault
-fed_rest_fault cpus front bytes rest a fault fed f = fault_at cpus _ _ fault (whole_rest front bytes fed.read rest fed.parts) f
+-- all were read
+pub fed_all : (cpus : ℕ) (front bytes rest : List ℕ) (b : Tester) → Fed cpus front bytes rest b → rest ≡ [] → Ran cpus (front ++ bytes) b
+fed_all cpus front bytes rest b fed none = subst (λ (t : List ℕ). Ran cpus (front ++ t) b) (sym (fed.parts ∙ ap (λ (t : List ℕ). fed.read ++ t) none ∙ append-nil fed.read)) fed.ran
 
 -- the outcome of the same bytes
 pub after_at : (name : List ℕ) (cpus : ℕ) (x y : List ℕ) (outcome : Outcome) (t : Tester) → x ≡ y → After name cpus x outcome t → After name cpus y outcome t

@@ -3,13 +3,14 @@
 ghost use Rattle.std.specs.Prelude.{◌≤◌, ◌<◌, ◌+◌, ◌^◌, length};
 
 use crate::cut::{ARROW, split_answer};
-use crate::listing::read_whole;
 use crate::player::Player;
 use engine::RunFault;
 use engine::line_runner::write_out;
-use engine::script_reader::{MAX_LINE, split_line, without_return};
+use engine::script_reader::MAX_LINE;
+use engine::whole_input::{read_whole, short_text};
 use grammar::parse::parse;
 use grammar::{Language, Token};
+use lines::{Line, Lines};
 use mig_base::NoMemory;
 use std::alloc::Global;
 use std::io::{Read, Write};
@@ -123,9 +124,9 @@ enum Places {
 
 impl Places {
     /// What is written after a line that ends so.
-    fn ending(self, end: &'static [u8]) -> &'static [u8] {
+    fn ending(self, end: &[u8]) -> &[u8] {
         match self {
-            Places::Every | Places::Beside => b"\n".as_slice(),
+            Places::Every | Places::Beside => b"\n",
             Places::Given => end,
         }
     }
@@ -208,41 +209,21 @@ impl Answerer {
         Ok(())
     }
 
-    /// Does the line with this number that ends in a line feed, and gathers it.
-    fn end_line(&mut self, number: u64, raw: &[u8]) -> Result<(), RunFault> {
-        let text = without_return(raw);
-        self.answer_line(number, text)?;
-        let end = if text.len() < raw.len() {
-            b"\r\n".as_slice()
-        } else {
-            b"\n".as_slice()
-        };
-        let end = self.places.ending(end);
+    /// Does a line, and gathers it with its end.
+    fn take_line(&mut self, line: Line<'_>) -> Result<(), RunFault> {
+        let text = short_text(line)?;
+        self.answer_line(line.number, text)?;
+        let feed = line.whole.get(text.len()..).unwrap_or(b"".as_slice());
+        let end = self.places.ending(feed);
         self.output.extend_from_slice(end)?;
         Ok(())
     }
 
     /// Does all lines of a script, and gathers them.
     fn answer_lines(&mut self, input: &[u8]) -> Result<(), RunFault> {
-        let mut rest = input;
-        let mut number = 0u64;
-        while let Some((raw, behind)) = split_line(rest) {
-            number += 1;
-            if raw.len() > MAX_LINE {
-                return Err(RunFault::Line(number));
-            }
-            self.end_line(number, raw)?;
-            rest = behind;
+        for line in Lines::new(input) {
+            self.take_line(line)?;
         }
-        if rest.len() > MAX_LINE {
-            return Err(RunFault::Line(number + 1));
-        }
-        if rest.is_empty() {
-            return Ok(());
-        }
-        self.answer_line(number + 1, rest)?;
-        let end = self.places.ending(b"".as_slice());
-        self.output.extend_from_slice(end)?;
         Ok(())
     }
 

@@ -6,9 +6,10 @@ use crate::outcome::{Outcome, Tested};
 use crate::player::Player;
 use engine::RunFault;
 use engine::line_runner::write_out;
-use engine::script_reader::{MAX_LINE, split_line, without_return};
+use engine::whole_input::{read_whole, short_text};
+use lines::Lines;
 use std::alloc::Global;
-use std::io::{ErrorKind, Read, Write};
+use std::io::{Read, Write};
 
 /// Runs a test on a new world as [`test_script`](crate::test_script) does, but continues after an answer that differs: it writes the line
 /// of each of them. The world has as many processors as the first line says, and otherwise `cpus`, 1 to 16. [`Tested`] has the outcome, and
@@ -39,15 +40,6 @@ pub fn list_differences<R: Read, W: Write>(
     }
     listed?;
     Ok(lister.tested())
-}
-
-/// Appends all that a reader has to the bytes.
-pub(crate) fn read_whole<R: Read>(reader: &mut R, bytes: &mut Vec<u8>) -> Result<(), RunFault> {
-    match reader.read_to_end(bytes) {
-        Ok(_) => Ok(()),
-        Err(error) if error.kind() == ErrorKind::OutOfMemory => Err(RunFault::NoMemory),
-        Err(_) => Err(RunFault::ReadFault),
-    }
 }
 
 /// Does the lines of a test, and gathers what is said of each answer that differs.
@@ -81,22 +73,9 @@ impl Lister {
 
     /// Does all lines of a test.
     fn list_lines(&mut self, name: &str, input: &[u8]) -> Result<(), RunFault> {
-        let mut rest = input;
-        let mut number = 0u64;
-        while let Some((raw, behind)) = split_line(rest) {
-            number += 1;
-            if raw.len() > MAX_LINE {
-                return Err(RunFault::Line(number));
-            }
-            self.list_line(name, number, without_return(raw))?;
-            rest = behind;
+        for line in Lines::new(input) {
+            self.list_line(name, line.number, short_text(line)?)?;
         }
-        if rest.len() > MAX_LINE {
-            return Err(RunFault::Line(number + 1));
-        }
-        if rest.is_empty() {
-            return Ok(());
-        }
-        self.list_line(name, number + 1, rest)
+        Ok(())
     }
 }

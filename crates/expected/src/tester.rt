@@ -9,7 +9,8 @@ ghost use Rattle.expected.specs.Parts.{Ran, After, FaultIn, FaultAtEnd};
 use crate::outcome::Outcome;
 use crate::player::Player;
 use engine::RunFault;
-use engine::script_reader::{MAX_LINE, split_line, without_return};
+use engine::script_reader::MAX_LINE;
+use lines::{Lines, without_return};
 use std::alloc::Global;
 
 /// A test that is being read.
@@ -82,14 +83,13 @@ impl Tester {
         ensures fault { IfErr result (λ fault. (cpus : ℕ) (front : List ℕ) →
             Ran cpus front self.old → FaultIn cpus (front ++ bytes.now) fault) }
     {
-        let mut rest = bytes;
-        while let Some((front, behind)) = split_line(rest) {
-            match self.end_line(name, front)? {
-                Outcome::Same => rest = behind,
-                Outcome::Differs => return Ok(Outcome::Differs),
+        for line in Lines::new(bytes) {
+            if !line.ended {
+                self.hold(line.raw)?;
+            } else if let Outcome::Differs = self.end_line(name, line.raw)? {
+                return Ok(Outcome::Differs);
             }
         }
-        self.hold(rest)?;
         Ok(Outcome::Same)
     }
 

@@ -9,8 +9,8 @@ ghost use Rattle.finish.specs.Finishing.{needs_epoch};
 ghost use Rattle.explore.specs.Explorations.{Explored, Gone, Going, GoesOn, StopsOn, Writes, Stops};
 
 use crate::course::{Course, Memo, draw_course};
-use crate::lines::Sheet;
 use crate::plan::Plan;
+use crate::sheet::Sheet;
 use crate::steps::draw_order;
 use crate::sweep::Sweep;
 use engine::RunFault;

@@ -4,7 +4,7 @@ ghost use Rattle.std.specs.Prelude.{IfSome};
 ghost use Rattle.grammar.specs.Fits.{IsSayable};
 
 use crate::commands::SLOTS;
-use crate::lines::page_at;
+use crate::sheet::page_at;
 use mig_base::{Addr, HIGH_PAGE, NoMemory, PAGE_SIZE, PageSet, Reply};
 use world::prelude::*;
 

@@ -1,10 +1,11 @@
 //! Arrivals: copies that wait to be installed.
 
-ghost use Rattle.std.specs.Prelude.{◌≡◌, IfOk};
+ghost use Rattle.std.specs.Prelude.{◌≡◌, ◌↔◌, true, IfOk};
 ghost use Rattle.mig_base.specs.Bytes.{zero_page};
 ghost use Rattle.fault_handler.specs.Arrivals.{came_bytes};
 
-use mig_base::{NoMemory, PageBytes, PageNo};
+use mig_base::zeros::zero_bytes;
+use mig_base::{NoMemory, PAGE_BYTES, PageBytes, PageNo};
 use std::alloc::Global;
 use std::collections::VecDeque;
 use std::marker::Model;
@@ -48,6 +49,14 @@ impl Arrival {
             page: self.page,
             content: copy_content(alloc, &self.content)?,
         })
+    }
+
+    /// Whether both are copies of the same page with the same bytes. Zeros for which no bytes are kept are the same as bytes that are all
+    /// zeros.
+    pub fn is_same(&self, other: &Self) -> bool
+        ensures { (result ≡ true) ↔ (self.now ≡ other.now) }
+    {
+        self.page == other.page && is_same_content(&self.content, &other.content)
     }
 
     /// The page at the source.
@@ -95,4 +104,36 @@ pub fn copy_arrivals(
         copies.push_back(arrivals[i].copy(alloc)?)?;
     }
     Ok(copies)
+}
+
+/// The bytes of a copy, those of zeros among them.
+fn bytes_of(content: &Content) -> &[u8; PAGE_BYTES]
+    ensures { result.now ≡ came_bytes content.now }
+{
+    match content {
+        Some(bytes) => bytes.as_array(),
+        None => zero_bytes(),
+    }
+}
+
+/// Whether both contents are the same bytes.
+fn is_same_content(content: &Content, other: &Content) -> bool
+    ensures { (result ≡ true) ↔ (came_bytes content.now ≡ came_bytes other.now) }
+{
+    *bytes_of(content) == *bytes_of(other)
+}
+
+/// Whether two queues have the same arrivals in the same order.
+pub fn are_same_arrivals(arrivals: &VecDeque<Arrival>, others: &VecDeque<Arrival>) -> bool
+    ensures { (result ≡ true) ↔ (arrivals.now.items ≡ others.now.items) }
+{
+    if arrivals.len() != others.len() {
+        return false;
+    }
+    for i in 0..arrivals.len() {
+        if !arrivals[i].is_same(&others[i]) {
+            return false;
+        }
+    }
+    true
 }

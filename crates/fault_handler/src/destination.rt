@@ -1,6 +1,6 @@
 //! The type that callers see: the destination of a migration.
 
-ghost use Rattle.std.specs.Prelude.{◌≡◌, ◌↔◌, false, length, IfOk, Err};
+ghost use Rattle.std.specs.Prelude.{◌≡◌, ◌↔◌, true, false, length, IfOk, Err};
 ghost use Rattle.mig_model.specs.Destination as machine;
 ghost use Rattle.vcpu.specs.Answers.{is_count};
 ghost use Rattle.mig_model.specs.Bounds.{AreFewPages, AreListed};
@@ -14,7 +14,7 @@ mod installs;
 mod laws;
 mod recovery;
 
-use crate::arrival::{Arrival, copy_arrivals};
+use crate::arrival::{Arrival, are_same_arrivals, copy_arrivals};
 use crate::kept::Kept;
 use crate::requests::Requests;
 use mig_base::phase::DestPhase;
@@ -23,7 +23,7 @@ use owed_pages::Owed;
 use std::alloc::Global;
 use std::collections::VecDeque;
 use std::marker::Model;
-use uffd_ioctl::{PageFault, Space, copy_faults};
+use uffd_ioctl::{PageFault, Space, are_same_faults, copy_faults};
 use vcpu::{Cpus, NewFault};
 
 /// The destination of a migration.
@@ -121,6 +121,27 @@ impl Destination {
             dropped: self.dropped,
             faults: self.faults,
         })
+    }
+
+    /// Whether both destinations are the same: their progress, their guests, the pages and faults that they hold or owe, and their counts.
+    pub fn is_same(&self, other: &Self) -> bool
+        ensures { (result ≡ true) ↔ (self.now ≡ other.now) }
+    {
+        self.phase == other.phase
+            && self.has_run == other.has_run
+            && self.ended == other.ended
+            && self.epoch == other.epoch
+            && self.urgent_taken == other.urgent_taken
+            && self.installed == other.installed
+            && self.dropped == other.dropped
+            && self.faults == other.faults
+            && self.cpus.is_same(&other.cpus)
+            && are_same_faults(&self.held, &other.held)
+            && self.requests.is_same(&other.requests)
+            && self.owed.is_same(&other.owed)
+            && are_same_arrivals(&self.arrivals, &other.arrivals)
+            && self.kept.is_same(&other.kept)
+            && self.space.is_same(&other.space)
     }
 
     /// Its phase.

@@ -1,6 +1,6 @@
 //! The kept copies: the newest copy of each page, until the destination runs.
 
-ghost use Rattle.std.specs.Prelude.{◌≡◌, ℕ, ◌+◌, ◌==◌, ◌<◌, ◌≤◌, ◌&&◌, ◌||◌, false, true, not, None, IfOk, OnOk, OnErr, length};
+ghost use Rattle.std.specs.Prelude.{◌≡◌, ◌↔◌, ℕ, ◌+◌, ◌==◌, ◌<◌, ◌≤◌, ◌&&◌, ◌||◌, false, true, not, None, IfOk, OnOk, OnErr, length};
 ghost use Rattle.std.specs.FinMap as map;
 ghost use Rattle.std.specs.FinSet as set;
 ghost use Rattle.mig_base.specs.Bytes.{zero_page};
@@ -71,6 +71,13 @@ impl Kept {
             pages: self.pages.copy()?,
             set,
         })
+    }
+
+    /// Whether copies of the same pages are kept, with the same bytes.
+    pub fn is_same(&self, other: &Self) -> bool
+        ensures { (result ≡ true) ↔ (self.now ≡ other.now) }
+    {
+        self.pages.is_same(&other.pages)
     }
 
     /// Keeps the copy of a page; it replaces an older one. `NoMemory` changes nothing, and never comes for a page that is kept.

@@ -1,6 +1,6 @@
 //! The pages of the source that a destination has asked for.
 
-ghost use Rattle.std.specs.Prelude.{◌≡◌, false, [], not, IfOk, OnOk, OnErr};
+ghost use Rattle.std.specs.Prelude.{◌≡◌, ◌↔◌, true, false, [], not, IfOk, OnOk, OnErr};
 ghost use Rattle.mig_model.specs.Owed.{is_requested, requesting, without_request};
 ghost use Rattle.fault_handler.specs.Requests.{StandOnce};
 
@@ -46,6 +46,13 @@ impl Requests {
             copy.add(*page)?;
         }
         Ok(copy)
+    }
+
+    /// Whether the same pages were requested, in the same order.
+    pub fn is_same(&self, other: &Self) -> bool
+        ensures { (result ≡ true) ↔ (self.now ≡ other.now) }
+    {
+        self.as_slice() == other.as_slice()
     }
 
     /// The pages, in order.

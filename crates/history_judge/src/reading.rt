@@ -4,9 +4,10 @@ ghost use Rattle.std.specs.Prelude.{◌≡◌, []};
 
 use crate::line::{HistoryLine, Room, Wrong, read_line};
 use engine::RunFault;
-use engine::line_reader::{LineSink, text_of};
+use engine::line_reader::LineSink;
 use engine::script_reader::MAX_LINE;
 use history::{Clock, Operation};
+use lines::text_of;
 use mig_base::NoMemory;
 use std::alloc::Global;
 

@@ -11,11 +11,12 @@ ghost use Rattle.host_calls.specs.Parts.{Takes, Refuses};
 
 use crate::call::Call;
 use crate::listing::{list_calls, node_of};
-use engine::line_reader::{LineSink, text_of};
+use engine::line_reader::LineSink;
 use engine::script_reader::MAX_LINE;
 use engine::{RunFault, progress};
 use grammar::parse::parse;
 use grammar::{Language, Line, Order, Token, print_line, print_progress};
+use lines::text_of;
 use mig_base::NoMemory;
 use mig_base::effect::Effect;
 use mig_base::refusal::Refusal;

@@ -1,29 +1,25 @@
 -- A MADV_DONTNEED over pages that are not known to be present: both objects have the same REMOVE to tell if any of them is registered.
-use Rattle.std.proofs.lemmas.Bool.Decides.{nat_tests}
 use Rattle.std.proofs.lemmas.Bool.{eqb-true, false≢true}
 use Rattle.std.proofs.lemmas.Grind.{flat_map-append}
 use Rattle.std.proofs.lemmas.List.Concat.{flat_map-cons}
 use Rattle.std.proofs.lemmas.List.Folds.{list_any-append}
-use Rattle.std.proofs.lemmas.List.{append-nil, map-append}
-use Rattle.std.proofs.lemmas.Option.{none-some}
-use Rattle.std.proofs.Common.{◌≡◌, ℕ, ◌+◌, ◌-◌, ◌*◌, ◌/◌, ◌%◌, ◌&&◌, ◌||◌, Bool, true, false, not, cond, eqb, Option, Some, None, List, [], ◌∷◌, ◌++◌, filter, map, arith, refl, sym, ap, subst, ◌∙◌}
+use Rattle.std.proofs.lemmas.List.{map-append}
+use Rattle.std.proofs.Common.{◌≡◌, ℕ, ◌+◌, ◌-◌, ◌*◌, ◌/◌, ◌%◌, ◌&&◌, ◌||◌, Bool, true, false, cond, eqb, Option, Some, None, List, [], ◌∷◌, ◌++◌, filter, map, arith, refl, sym, ap, subst, ◌∙◌}
 use Rattle.std.specs.Prelude.{if◌then◌else◌, is_some}
-use Rattle.std.specs.List.{flat_map, list_any}
 use Rattle.std.specs.FinMap.{contains_key, get}
 use Rattle.std.specs.FinSet.{contains}
 use Rattle.mig_base.specs.declared.command.Command.TheVariants.{DontNeed}
 use Rattle.mig_base.specs.declared.command.Reply.TheVariants.{Done}
 use Rattle.mig_base.specs.declared.message.Message.TheVariants.{Remove}
-use Rattle.mig_base.specs.Flat.{dontneed_reply, reply_of}
+use Rattle.mig_base.specs.Flat.{dontneed_reply}
 use Rattle.mig_base.specs.Pages.{remove_range}
-use Rattle.mig_base.specs.Ranges.{in_range, pages_of, rounded}
+use Rattle.mig_base.specs.Ranges.{in_range, pages_of}
 use Rattle.mig_base.specs.Sets.{without}
 use Rattle.mig_base.specs.Tests.{is_empty}
 use Rattle.mig_base.specs.Userfault.{Noted, is_watched}
 use Rattle.mig_base.proofs.PageLemmas.{get-remove_range}
 use Rattle.mig_base.proofs.RangeLemmas.{in_range_bounds}
 use Rattle.mig_base.proofs.ReplyLemmas.{dontneed_done}
-use Rattle.mig_base.proofs.SetLemmas.{member_without}
 use Rattle.mig_base.proofs.TestLemmas.{eqb-self}
 use Rattle.mig_model.specs.Host.{host_dropped, memory}
 use Rattle.mig_model.specs.Space.{IsSoundSpace, Space, all_queued, called, message_if}
@@ -36,7 +32,7 @@ use Rattle.kernel_rules.specs.declared.calling.Told.{Told}
 use Rattle.kernel_rules.specs.declared.calling.Untold.{Untold}
 use Rattle.kernel_rules.specs.declared.known.Page.{Page}
 use Rattle.kernel_rules.specs.declared.known.Presence.TheVariants.{Missing}
-use Rattle.kernel_rules.specs.Ioctls.{span_of, tells_object}
+use Rattle.kernel_rules.specs.Ioctls.{span_of}
 use Rattle.kernel_rules.specs.MapCalls.{cleared_by, cleared_to, clearing, clears, is_told_all, madvised, spans_without, with_all_told, with_clearing}
 use Rattle.kernel_rules.specs.Pages.{cleared_page, is_present, known_as}
 use Rattle.kernel_rules.specs.Changes.{page_with}

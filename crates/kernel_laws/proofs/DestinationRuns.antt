@@ -1,13 +1,14 @@
--- The log of a destination without map calls has a run, step by step.
+-- The log of a destination whose guest moves and clears no pages has a run, step by step.
 use Rattle.std.proofs.lemmas.Bool.Decides.{nat_tests}
 use Rattle.std.proofs.lemmas.Bool.{false≢true}
-use Rattle.std.proofs.Common.{◌≡◌, ℕ, ◌*◌, Bool, true, false, Option, Some, None, List, [], ◌∷◌, arith, refl, sym, ap, subst, ◌∙◌}
-use Rattle.std.specs.Prelude.{Ok}
+use Rattle.std.proofs.Common.{◌≡◌, ℕ, ◌*◌, Bool, true, false, Option, Some, None, List, [], ◌∷◌, map, arith, refl, sym, ap, subst, ◌∙◌}
+use Rattle.std.specs.Prelude.{Result, Ok, Err}
 use Rattle.std.specs.FinSet.{contains}
 use Rattle.mig_base.specs.declared.act.Act.{Act}
 use Rattle.mig_base.specs.declared.command.Command.{Command}
 use Rattle.mig_base.specs.declared.effect.Effect.{Effect}
 use Rattle.mig_base.specs.declared.phase.DestPhase.{DestPhase}
+use Rattle.mig_base.specs.declared.refusal.Refusal.{Refusal}
 use Rattle.mig_base.specs.declared.schedule.Side.{Side}
 use Rattle.mig_base.specs.declared.schedule.Step.{Step}
 use Rattle.mig_base.specs.Acts.{act_effect}
@@ -23,23 +24,41 @@ use Rattle.mig_model.specs.Ioctls.{event_features}
 use Rattle.mig_model.specs.Invariant.{RanAt}
 use Rattle.mig_model.specs.Migration.{World, guest_by, guest_of, next, outcome, with_guest_by}
 use Rattle.mig_model.specs.Promises.{IsReached}
-use Rattle.mig_model.specs.Space.{Space, accessed}
+use Rattle.mig_model.specs.Bounds.{IsMapping}
+use Rattle.mig_model.specs.Space.{Space, accessed, called}
 use Rattle.mig_model.specs.Wire.{Copy, Frame}
 use Rattle.mig_model.specs.Whereabouts.{is_package}
 use Rattle.mig_model.proofs.delivery.FramesTaken.{is_taken}
-use Rattle.mig_model.proofs.invariant.Bounded.{bounded-reached}
+use Rattle.mig_model.proofs.invariant.Bounded.{bounded-reached, memory_bounded}
 use Rattle.mig_model.proofs.invariant.FaultPages.{inside-reached}
 use Rattle.mig_model.proofs.memory.HandlerCalls.{copy_installed, destination_forgets, destination_wakes, destination_zeroes}
 use Rattle.mig_model.proofs.steps.PartsChanged.{changes_parts}
 use Rattle.mig_model.proofs.steps.ReachedLemmas.{reached-next}
 use Rattle.mig_model.proofs.steps.StepCases.{made-effect, made-next}
+use Rattle.mig_model.proofs.steps.StepLemmas.{next-refused}
 use Rattle.mig_model.proofs.transcript.WaitingAccesses.{are_accesses, as_many}
 use Rattle.uffd_log.specs.declared.call.Descriptor.{Descriptor}
-use Rattle.kernel_rules.specs.Faults.{waits}
+use Rattle.kernel_rules.specs.State.{may_be_outside}
 use Rattle.kernel_laws.specs.Agreement.{Counterparts}
-use Rattle.kernel_laws.specs.Logs.{HaveNoMapCalls, IsLogged, IsNoMapCall, IsQuiet, Running, space_after, act_call, destination, destination_calls, install_call, lines_of_calls, log_of, read_call}
+use Rattle.kernel_laws.specs.Logs.{AreFollowed, AreLogged, IsFollowed, Running, Written, act_call, calls_written, destination, destination_writes, install_call, is_followed, issue_written, lines_of_calls, log_of, map_call, read_written, space_after}
 use Rattle.kernel_laws.proofs.Followed.{followed-copy, followed-wake, followed-zeropage, has-copy}
-use Rattle.kernel_laws.proofs.LogRuns.{AreAll, accessed-logged, by-result, copy-logged, every-logged, no_thread_ids, read-logged, stays, wake-logged, zeropage-logged}
+use Rattle.kernel_laws.proofs.LogRuns.{AreAll, Goes, Writes, accessed-logged, copy-logged, each-followed, every-logged, logged-from, no_thread_ids, stays, wake-logged, writes-calls, zeropage-logged}
+use Rattle.kernel_laws.proofs.MapRuns.{command-writes, has_events_in, message-logged, no-map-call}
+use Rattle.kernel_laws.proofs.OpenCalls.{AreBelow, HasCalls, Pending, open_of}
+
+-- The state of a destination that runs, and a kernel whose object agrees, with map calls under way
+pub record At : Type 0 where
+  pub world : World
+  pub reached : IsReached world
+  pub ran : world.destination.has_run ≡ true
+  pub calls : List Pending
+  pub one : Counterparts
+  pub same : one.space ≡ world.destination.guest.space
+  pub told : HasCalls calls one
+  pub on : Descriptor
+  pub own : on.object ≡ one.name
+  pub from : ℕ
+  pub source : may_be_outside from 4096 ≡ false
 
 -- DestAct
 acted-space : (on : Descriptor) (act : Act) (node : Destination) (page addr : ℕ) → act_call on (act_effect act addr) ≡ [] → (destination_acted_by act node page).guest.space ≡ node.guest.space
@@ -54,26 +73,26 @@ no-act world on effect is =
     made-effect (λ effect new. act_call on effect ≡ [] → new.destination.guest.space ≡ world.destination.guest.space) world Step.DestAct effect
     (λ fault rest first ran quiet. acted-space on _ world.destination fault.page (4096 * fault.page)) is
 
-act-logged : (at : Running) (key : ℕ) (effect : Effect) → outcome at.world Step.DestAct ≡ Ok effect →
-    IsLogged false at.one (lines_of_calls key (act_call at.on effect)) (next at.world Step.DestAct).destination.guest.space
-act-logged at key (Effect.Zeroed addr) is =
+act-logged : (at : At) (key : ℕ) (effect : Effect) → AreBelow key at.calls → outcome at.world Step.DestAct ≡ Ok effect →
+    Goes at.calls at.calls at.one (lines_of_calls key (act_call at.on effect)) (next at.world Step.DestAct).destination.guest.space
+act-logged at key (Effect.Zeroed addr) below is =
     let world = at.world in
     let all = bounded-reached world at.reached in
     let new = (next world Step.DestAct).destination.guest in
-    zeropage-logged false at.one key at.on addr new.space at.own at.quiet (followed-zeropage at.one world.destination.guest new key addr at.same (destination_zeroes at.reached.cpus world addr all is))
-act-logged at key (Effect.Woke addr) is =
+    zeropage-logged at.one key at.on addr new.space below at.own at.told (followed-zeropage at.one world.destination.guest new key addr at.same (destination_zeroes at.reached.cpus world addr all is))
+act-logged at key (Effect.Woke addr) below is =
     let world = at.world in
     let all = bounded-reached world at.reached in
     let new = (next world Step.DestAct).destination.guest in
-    wake-logged false at.one key at.on addr new.space at.own at.quiet (followed-wake at.one world.destination.guest new addr at.same (destination_wakes at.reached.cpus world addr all (inside-reached world at.reached) is))
-act-logged at key (Effect.Forgot addr) is =
+    wake-logged at.one key at.on addr 4096 new.space below at.own at.told (followed-wake at.one world.destination.guest new addr at.same (destination_wakes at.reached.cpus world addr all (inside-reached world at.reached) is))
+act-logged at key (Effect.Forgot addr) below is =
     let world = at.world in
     let all = bounded-reached world at.reached in
     let new = (next world Step.DestAct).destination.guest in
-    wake-logged false at.one key at.on addr new.space at.own at.quiet (followed-wake at.one world.destination.guest new addr at.same (destination_forgets at.reached.cpus world addr all (inside-reached world at.reached) is))
-act-logged at key effect is =
+    wake-logged at.one key at.on addr 4096 new.space below at.own at.told (followed-wake at.one world.destination.guest new addr at.same (destination_forgets at.reached.cpus world addr all (inside-reached world at.reached) is))
+act-logged at key effect below is =
     let world = at.world in
-    stays false at.one (next world Step.DestAct).destination.guest.space (at.same ∙ sym (no-act world at.on effect is refl)) at.quiet
+    stays at.one (next world Step.DestAct).destination.guest.space (at.same ∙ sym (no-act world at.on effect is refl)) at.told
 
 -- Install
 installed-space : (on : Descriptor) (from : ℕ) (home : Option ℕ) (node : Destination) (copy : Copy) (rest : List Copy) (origin : ℕ) → install_call on from (install_effect home origin) ≡ [] → (install_by home node copy rest).guest.space ≡ node.guest.space
@@ -85,18 +104,18 @@ no-install world on from effect is =
     made-effect (λ effect new. install_call on from effect ≡ [] → new.destination.guest.space ≡ world.destination.guest.space) world Step.Install effect
     (λ copy rest first ran quiet. installed-space on from _ world.destination copy rest copy.page) is
 
-install-logged : (at : Running) (key : ℕ) (effect : Effect) →
-    outcome at.world Step.Install ≡ Ok effect → IsLogged false at.one (lines_of_calls key (install_call at.on at.from effect)) (next at.world Step.Install).destination.guest.space
-install-logged at key (Effect.Installed addr origin) is =
+install-logged : (at : At) (key : ℕ) (effect : Effect) → AreBelow key at.calls →
+    outcome at.world Step.Install ≡ Ok effect → Goes at.calls at.calls at.one (lines_of_calls key (install_call at.on at.from effect)) (next at.world Step.Install).destination.guest.space
+install-logged at key (Effect.Installed addr origin) below is =
     let world = at.world in
     let all = bounded-reached world at.reached in
     let has = has-copy world addr origin is in
     let new = (next world Step.Install).destination.guest in
-    copy-logged false at.one key at.from at.on addr new.space at.own at.quiet
+    copy-logged at.one key at.from at.on addr new.space below at.own at.told
     (followed-copy at.one world.destination.guest new key at.from addr has.0.bytes at.same (copy_installed at.reached.cpus world has.0 has.1 addr origin all has.2 is).0 at.source)
-install-logged at key effect is =
+install-logged at key effect below is =
     let world = at.world in
-    stays false at.one (next world Step.Install).destination.guest.space (at.same ∙ sym (no-install world at.on at.from effect is refl)) at.quiet
+    stays at.one (next world Step.Install).destination.guest.space (at.same ∙ sym (no-install world at.on at.from effect is refl)) at.told
 
 -- DestRead
 is-read : (world : World) (effect : Effect) → outcome world Step.DestRead ≡ Ok effect →
@@ -105,15 +124,16 @@ is-read world effect is =
     made-effect (λ effect new. (noted : Noted) × (next_message world.destination.guest.space.object ≡ Some noted) × (new.destination.guest.space ≡ record world.destination.guest.space { object = message_read world.destination.guest.space.object }))
     world Step.DestRead effect (λ noted next ran. (noted, next, refl)) is
 
-dest-read-logged : (at : Running) (key : ℕ) (effect : Effect) → outcome at.world Step.DestRead ≡ Ok effect →
-    IsLogged false at.one (lines_of_calls key (read_call at.on (next_message at.world.destination.guest.space.object))) (next at.world Step.DestRead).destination.guest.space
-dest-read-logged at key effect is =
+dest-read-writes : (at : At) (key : ℕ) (effect : Effect) → AreBelow key at.calls → outcome at.world Step.DestRead ≡ Ok effect →
+    Writes at.calls at.one (read_written at.on key (map open_of at.calls) (next_message at.world.destination.guest.space.object)) (next at.world Step.DestRead).destination.guest.space
+dest-read-writes at key effect below is =
     let world = at.world in
     let it = is-read world effect is in
     let opened = (bounded-reached world at.reached).opened.destination at.ran in
-    subst (λ o. IsLogged false at.one (lines_of_calls key (read_call at.on o)) (next world Step.DestRead).destination.guest.space) (sym it.1)
-    (subst (IsLogged false at.one (lines_of_calls key (read_call at.on (Some it.0)))) (ap (λ (s : Space). record s { object = message_read s.object }) at.same ∙ sym it.2)
-    (read-logged false at.one key at.on it.0 at.own at.quiet (ap (λ (s : Space). s.object.enabled) at.same ∙ opened.enabled) (ap (λ (s : Space). next_message s.object) at.same ∙ it.1)))
+    let object = at.one.space.object in
+    subst (λ o. Writes at.calls at.one (read_written at.on key (map open_of at.calls) o) (next world Step.DestRead).destination.guest.space) (sym it.1)
+    (subst (Writes at.calls at.one (read_written at.on key (map open_of at.calls) (Some it.0))) (ap (λ (s : Space). record s { object = message_read s.object }) at.same ∙ sym it.2)
+    (message-logged at.one key at.on it.0 object.faults object.events below at.own at.told (ap (λ (s : Space). s.object.enabled) at.same ∙ opened.enabled) refl refl (ap (λ (s : Space). next_message s.object) at.same ∙ it.1)))
 
 -- Frames
 
@@ -126,7 +146,7 @@ took-guest node epoch frame ran none = grind (arith, nat_tests)
 urgent-guest : (node : Destination) (frame : Frame) → (urgent_took node frame).guest ≡ node.guest
 urgent-guest node frame = grind (arith, nat_tests)
 
-delivered-guest : (at : Running) (n : ℕ) → (next at.world (Step.Deliver n)).destination.guest ≡ at.world.destination.guest
+delivered-guest : (at : At) (n : ℕ) → (next at.world (Step.Deliver n)).destination.guest ≡ at.world.destination.guest
 delivered-guest at n =
     let world = at.world in
     let all = bounded-reached world at.reached in
@@ -155,57 +175,101 @@ retried-access : (ran : Bool) (world : World) (cpu : ℕ) (command : Command) �
 retried-access true world cpu command reached ran waits = (are_accesses world reached).destination cpu command waits
 retried-access false world cpu command reached ran waits = absurd (false≢true ran)
 
-command-logged : (at : Running) (cpu : ℕ) (command : Command) → is_access command ≡ true →
-    IsLogged false at.one [] (with_guest_by at.world.destination.has_run at.world (tried (is_access command) (guest_of at.world) cpu command)).destination.guest.space
+command-logged : (at : At) (cpu : ℕ) (command : Command) → is_access command ≡ true →
+    Goes at.calls at.calls at.one [] (with_guest_by at.world.destination.has_run at.world (tried (is_access command) (guest_of at.world) cpu command)).destination.guest.space
 command-logged at cpu command access =
     let world = at.world in
     let one = at.one in
     let all = bounded-reached world at.reached in
     let opened = all.opened.destination at.ran in
-    subst (IsLogged false one []) (sym (command-space world.destination.has_run world cpu command at.ran access))
-    (subst (λ s. IsLogged false one [] (accessed s cpu command)) at.same
-    (accessed-logged false one cpu command access at.quiet (ap (λ (s : Space). s.object.enabled) at.same ∙ opened.enabled) (ap (λ (s : Space). is_one s.object.features 8) at.same ∙ ap (λ n. is_one n 8) opened.asked ∙ no_thread_ids)
+    subst (Goes at.calls at.calls one []) (sym (command-space world.destination.has_run world cpu command at.ran access))
+    (subst (λ s. Goes at.calls at.calls one [] (accessed s cpu command)) at.same
+    (accessed-logged one cpu command access at.told (ap (λ (s : Space). s.object.enabled) at.same ∙ opened.enabled) (ap (λ (s : Space). is_one s.object.features 8) at.same ∙ ap (λ n. is_one n 8) opened.asked ∙ no_thread_ids)
     (λ protect. absurd (false≢true (sym (ap (λ (s : Space). contains s.object.protect (page_of command)) at.same ∙ all.ready.kept.spaces.only_missing (page_of command)) ∙ protect)))))
+
+-- Map calls
+
+called-space : (ran : Bool) (world : World) (cpu : ℕ) (command : Command) → ran ≡ true → is_access command ≡ false →
+    (with_guest_by ran world (tried (is_access command) (guest_by ran world.source.guest world.destination.guest) cpu command)).destination.guest.space ≡ called world.destination.guest.space cpu command
+called-space true world cpu command ran access = ap (λ b. space_by b world.destination.guest.space cpu command) access
+called-space false world cpu command ran access = absurd (false≢true ran)
+
+asked-events : has_events_in event_features ≡ true
+unfolding is_one
+asked-events = refl
+
+map-logged : (at : At) (key cpu : ℕ) (command : Command) → AreBelow key at.calls → is_access command ≡ false → is_followed command ≡ true →
+    Writes at.calls at.one (issue_written at.one.object.space key (map open_of at.calls) at.world.destination.guest.space command (map_call command)) (with_guest_by at.world.destination.has_run at.world (tried (is_access command) (guest_of at.world) cpu command)).destination.guest.space
+map-logged at key cpu command below access followed =
+    let world = at.world in
+    let all = bounded-reached world at.reached in
+    let opened = all.opened.destination at.ran in
+    subst (Writes at.calls at.one (issue_written at.one.object.space key (map open_of at.calls) world.destination.guest.space command (map_call command))) (sym (called-space world.destination.has_run world cpu command at.ran access))
+    (subst (λ s. Writes at.calls at.one (issue_written at.one.object.space key (map open_of at.calls) s command (map_call command)) (called s cpu command)) at.same
+    (command-writes at.one key cpu command below at.told (ap (λ (s : Space). s.object.enabled) at.same ∙ opened.enabled)
+    (ap (λ (s : Space). has_events_in s.object.features) at.same ∙ ap has_events_in opened.asked ∙ asked-events)
+    (subst (λ (s : Space). IsMapping s.host.areas) (sym at.same) (memory_bounded world at.reached).destination) access followed))
+
+issue-writes : (at : At) (key cpu : ℕ) (command : Command) (access : Bool) → AreBelow key at.calls → is_access command ≡ access → is_followed command ≡ true →
+    Writes at.calls at.one (issue_written at.one.object.space key (map open_of at.calls) at.world.destination.guest.space command (map_call command)) (with_guest_by at.world.destination.has_run at.world (tried (is_access command) (guest_of at.world) cpu command)).destination.guest.space
+issue-writes at key cpu command false below is followed = map-logged at key cpu command below is followed
+issue-writes at key cpu command true below is followed =
+    let space = (with_guest_by at.world.destination.has_run at.world (tried (is_access command) (guest_of at.world) cpu command)).destination.guest.space in
+    subst (λ o. Writes at.calls at.one (issue_written at.one.object.space key (map open_of at.calls) at.world.destination.guest.space command o) space) (sym (no-map-call command is)) (writes-calls at.one key [] space below (command-logged at cpu command is))
 
 -- Every step
 
-unchanged : (world : World) (step : Step) (one : Counterparts) → one.space ≡ world.destination.guest.space → IsQuiet one.kernel → (next world step).destination ≡ world.destination → IsLogged false one [] (next world step).destination.guest.space
-unchanged world step one same quiet is = stays false one (next world step).destination.guest.space (same ∙ ap (λ (node : Destination). node.guest.space) (sym is)) quiet
+nothing-writes : (at : At) (key : ℕ) (space : Space) → AreBelow key at.calls → at.one.space ≡ space → Writes at.calls at.one (calls_written key (map open_of at.calls) []) space
+nothing-writes at key space below same = writes-calls at.one key [] space below (stays at.one space same at.told)
 
-step-logged : (at : Running) (key : ℕ) (step : Step) → IsNoMapCall step →
-    IsLogged false at.one (lines_of_calls key (destination_calls at.on at.from at.world step (outcome at.world step))) (next at.world step).destination.guest.space
-step-logged at key (Step.Issue cpu command) access =
-    made-next (λ new. IsLogged false at.one [] new.destination.guest.space) at.world (Step.Issue cpu command) (stays false at.one at.world.destination.guest.space at.same at.quiet)
-    (λ there idle runs. command-logged at cpu command access)
-step-logged at key (Step.Retry cpu) access =
-    made-next (λ new. IsLogged false at.one [] new.destination.guest.space) at.world (Step.Retry cpu) (stays false at.one at.world.destination.guest.space at.same at.quiet)
-    (λ command waits woken runs. command-logged at cpu command (retried-access at.world.destination.has_run at.world cpu command at.reached at.ran waits))
-step-logged at key (Step.Deliver n) access = stays false at.one _ (at.same ∙ ap (λ (guest : Guest). guest.space) (sym (delivered-guest at n))) at.quiet
-step-logged at key (Step.DeliverUrgent n) access = stays false at.one _ (at.same ∙ ap (λ (guest : Guest). guest.space) (sym (urgently-delivered at.world n))) at.quiet
-step-logged at key Step.DestRead access =
-    by-result (destination at.on at.from) at.world Step.DestRead at.one (λ effect. read_call at.on (next_message at.world.destination.guest.space.object)) key (outcome at.world Step.DestRead) at.same at.quiet refl (λ effect is. dest-read-logged at key effect is)
-step-logged at key Step.DestAct access =
-    by-result (destination at.on at.from) at.world Step.DestAct at.one (act_call at.on) key (outcome at.world Step.DestAct) at.same at.quiet refl (λ effect is. act-logged at key effect is)
-step-logged at key Step.Install access =
-    by-result (destination at.on at.from) at.world Step.Install at.one (install_call at.on at.from) key (outcome at.world Step.Install) at.same at.quiet refl (λ effect is. install-logged at key effect is)
-step-logged at key (Step.Notice Side.Source) access =
-    stays false at.one _ (at.same ∙ sym (ap (λ (w : World). w.destination.guest.space) (changes_parts at.world (Step.Notice Side.Source)).is)) at.quiet
-step-logged at key (Step.Notice Side.Destination) access =
-    stays false at.one _ (at.same ∙ sym (ap (λ (w : World). w.destination.guest.space) (changes_parts at.world (Step.Notice Side.Destination)).is)) at.quiet
-step-logged at key Step.Start access = unchanged at.world Step.Start at.one at.same at.quiet (changes_parts at.world Step.Start).destination
-step-logged at key Step.Round access = unchanged at.world Step.Round at.one at.same at.quiet (changes_parts at.world Step.Round).destination
-step-logged at key Step.Send access = unchanged at.world Step.Send at.one at.same at.quiet (changes_parts at.world Step.Send).destination
-step-logged at key (Step.SendRun count) access = unchanged at.world (Step.SendRun count) at.one at.same at.quiet (changes_parts at.world (Step.SendRun count)).destination
-step-logged at key Step.SourceRead access = unchanged at.world Step.SourceRead at.one at.same at.quiet (changes_parts at.world Step.SourceRead).destination
-step-logged at key Step.SourceAct access = unchanged at.world Step.SourceAct at.one at.same at.quiet (changes_parts at.world Step.SourceAct).destination
-step-logged at key Step.Switch access = unchanged at.world Step.Switch at.one at.same at.quiet (changes_parts at.world Step.Switch).destination
-step-logged at key (Step.DeliverBack n) access = unchanged at.world (Step.DeliverBack n) at.one at.same at.quiet (changes_parts at.world (Step.DeliverBack n)).destination
-step-logged at key (Step.Push ticket) access = unchanged at.world (Step.Push ticket) at.one at.same at.quiet (changes_parts at.world (Step.Push ticket)).destination
-step-logged at key (Step.PushUrgent ticket) access = unchanged at.world (Step.PushUrgent ticket) at.one at.same at.quiet (changes_parts at.world (Step.PushUrgent ticket)).destination
-step-logged at key Step.Serve access = unchanged at.world Step.Serve at.one at.same at.quiet (changes_parts at.world Step.Serve).destination
-step-logged at key Step.End access = unchanged at.world Step.End at.one at.same at.quiet (changes_parts at.world Step.End).destination
-step-logged at key Step.Break access = unchanged at.world Step.Break at.one at.same at.quiet (changes_parts at.world Step.Break).destination
-step-logged at key Step.Resume access = unchanged at.world Step.Resume at.one at.same at.quiet (changes_parts at.world Step.Resume).destination
+unchanged : (at : At) (key : ℕ) (step : Step) → AreBelow key at.calls → (next at.world step).destination ≡ at.world.destination → Writes at.calls at.one (calls_written key (map open_of at.calls) []) (next at.world step).destination.guest.space
+unchanged at key step below is = nothing-writes at key (next at.world step).destination.guest.space below (at.same ∙ ap (λ (node : Destination). node.guest.space) (sym is))
+
+-- by the outcome: a refused step changes nothing
+by-outcome : (at : At) (key : ℕ) (step : Step) (written : Result Effect Refusal → Written) (result : Result Effect Refusal) → AreBelow key at.calls → ((refusal : Refusal) → written (Err refusal) ≡ calls_written key (map open_of at.calls) []) → outcome at.world step ≡ result →
+    ((effect : Effect) → outcome at.world step ≡ Ok effect → Writes at.calls at.one (written (Ok effect)) (next at.world step).destination.guest.space) → Writes at.calls at.one (written result) (next at.world step).destination.guest.space
+by-outcome at key step written (Ok effect) below none is made = made effect is
+by-outcome at key step written (Err refusal) below none is made =
+    subst (λ w. Writes at.calls at.one w (next at.world step).destination.guest.space) (sym (none refusal))
+    (nothing-writes at key (next at.world step).destination.guest.space below (at.same ∙ sym (ap (λ (w : World). w.destination.guest.space) (next-refused at.world step refusal is))))
+
+step-writes : (at : At) (key : ℕ) (step : Step) → AreBelow key at.calls → IsFollowed step →
+    Writes at.calls at.one (destination_writes at.on at.from at.one.object.space key (map open_of at.calls) at.world step (outcome at.world step)) (next at.world step).destination.guest.space
+step-writes at key (Step.Issue cpu command) below followed =
+    by-outcome at key (Step.Issue cpu command) (destination_writes at.on at.from at.one.object.space key (map open_of at.calls) at.world (Step.Issue cpu command)) (outcome at.world (Step.Issue cpu command)) below (λ refusal. refl) refl
+    (λ effect is.
+    made-effect (λ effect new. Writes at.calls at.one (issue_written at.one.object.space key (map open_of at.calls) at.world.destination.guest.space command (map_call command)) new.destination.guest.space) at.world (Step.Issue cpu command) effect
+    (λ there idle runs. issue-writes at key cpu command (is_access command) below refl followed) is)
+step-writes at key (Step.Retry cpu) below followed =
+    writes-calls at.one key [] (next at.world (Step.Retry cpu)).destination.guest.space below
+    (made-next (λ new. Goes at.calls at.calls at.one [] new.destination.guest.space) at.world (Step.Retry cpu) (stays at.one at.world.destination.guest.space at.same at.told)
+    (λ command waits woken runs. command-logged at cpu command (retried-access at.world.destination.has_run at.world cpu command at.reached at.ran waits)))
+step-writes at key (Step.Deliver n) below followed = nothing-writes at key _ below (at.same ∙ ap (λ (guest : Guest). guest.space) (sym (delivered-guest at n)))
+step-writes at key (Step.DeliverUrgent n) below followed = nothing-writes at key _ below (at.same ∙ ap (λ (guest : Guest). guest.space) (sym (urgently-delivered at.world n)))
+step-writes at key Step.DestRead below followed =
+    by-outcome at key Step.DestRead (destination_writes at.on at.from at.one.object.space key (map open_of at.calls) at.world Step.DestRead) (outcome at.world Step.DestRead) below (λ refusal. refl) refl (λ effect is. dest-read-writes at key effect below is)
+step-writes at key Step.DestAct below followed =
+    by-outcome at key Step.DestAct (destination_writes at.on at.from at.one.object.space key (map open_of at.calls) at.world Step.DestAct) (outcome at.world Step.DestAct) below (λ refusal. refl) refl
+    (λ effect is. writes-calls at.one key (act_call at.on effect) (next at.world Step.DestAct).destination.guest.space below (act-logged at key effect below is))
+step-writes at key Step.Install below followed =
+    by-outcome at key Step.Install (destination_writes at.on at.from at.one.object.space key (map open_of at.calls) at.world Step.Install) (outcome at.world Step.Install) below (λ refusal. refl) refl
+    (λ effect is. writes-calls at.one key (install_call at.on at.from effect) (next at.world Step.Install).destination.guest.space below (install-logged at key effect below is))
+step-writes at key (Step.Notice Side.Source) below followed = nothing-writes at key _ below (at.same ∙ sym (ap (λ (w : World). w.destination.guest.space) (changes_parts at.world (Step.Notice Side.Source)).is))
+step-writes at key (Step.Notice Side.Destination) below followed = nothing-writes at key _ below (at.same ∙ sym (ap (λ (w : World). w.destination.guest.space) (changes_parts at.world (Step.Notice Side.Destination)).is))
+step-writes at key Step.Start below followed = unchanged at key Step.Start below (changes_parts at.world Step.Start).destination
+step-writes at key Step.Round below followed = unchanged at key Step.Round below (changes_parts at.world Step.Round).destination
+step-writes at key Step.Send below followed = unchanged at key Step.Send below (changes_parts at.world Step.Send).destination
+step-writes at key (Step.SendRun count) below followed = unchanged at key (Step.SendRun count) below (changes_parts at.world (Step.SendRun count)).destination
+step-writes at key Step.SourceRead below followed = unchanged at key Step.SourceRead below (changes_parts at.world Step.SourceRead).destination
+step-writes at key Step.SourceAct below followed = unchanged at key Step.SourceAct below (changes_parts at.world Step.SourceAct).destination
+step-writes at key Step.Switch below followed = unchanged at key Step.Switch below (changes_parts at.world Step.Switch).destination
+step-writes at key (Step.DeliverBack n) below followed = unchanged at key (Step.DeliverBack n) below (changes_parts at.world (Step.DeliverBack n)).destination
+step-writes at key (Step.Push ticket) below followed = unchanged at key (Step.Push ticket) below (changes_parts at.world (Step.Push ticket)).destination
+step-writes at key (Step.PushUrgent ticket) below followed = unchanged at key (Step.PushUrgent ticket) below (changes_parts at.world (Step.PushUrgent ticket)).destination
+step-writes at key Step.Serve below followed = unchanged at key Step.Serve below (changes_parts at.world Step.Serve).destination
+step-writes at key Step.End below followed = unchanged at key Step.End below (changes_parts at.world Step.End).destination
+step-writes at key Step.Break below followed = unchanged at key Step.Break below (changes_parts at.world Step.Break).destination
+step-writes at key Step.Resume below followed = unchanged at key Step.Resume below (changes_parts at.world Step.Resume).destination
 
 -- Every list of steps
 
@@ -256,10 +320,18 @@ all-run : (world : World) (steps : List Step) → HasRun world → AreAll HasRun
 all-run world [] it = it
 all-run world (step ∷ steps) it = (it, all-run (next world step) steps (reached-next world step it.0, runs-on world step it.1))
 
-pub steps-logged : (at : Running) (key : ℕ) (steps : List Step) → HaveNoMapCalls steps →
-    IsLogged false at.one (log_of (destination at.on at.from) key at.world steps) (space_after (destination at.on at.from) at.world steps)
-steps-logged at key steps none =
-    every-logged (destination at.on at.from) at.on.object HasRun
-    (λ world one number step it then access same quiet own.
-    step-logged (record { world = world; reached = it.0; ran = it.1; one = one; same = same; quiet = quiet; on = at.on; own = own; from = at.from; source = at.source }) number step access)
-    at.world at.one key steps (all-run at.world steps (at.reached, at.ran)) none at.same at.quiet at.own
+pub steps-written : (at : At) (home key : ℕ) (steps : List Step) → AreFollowed steps → AreBelow key at.calls → home ≡ at.one.object.space →
+    Writes at.calls at.one (log_of (destination at.on at.from home) key (map open_of at.calls) at.world steps) (space_after (destination at.on at.from home) at.world steps)
+steps-written at home key steps followed below there =
+    every-logged (destination at.on at.from home) at.on.object home HasRun IsFollowed (λ calls. Unit {0})
+    (λ world before one number step it then is kept low same told own home_is. (
+      subst (λ n. Writes before one (destination_writes at.on at.from n number (map open_of before) world step (outcome world step)) (next world step).destination.guest.space) (sym home_is)
+          (step-writes (record { world = world; reached = it.0; ran = it.1; calls = before; one = one; same = same; told = told; on = at.on; own = own; from = at.from; source = at.source }) number step low is),
+      tt,
+    ))
+    at.world at.calls at.one key steps (all-run at.world steps (at.reached, at.ran)) (each-followed steps followed) tt below at.same at.told at.own there
+
+pub steps-logged : (at : Running) (key : ℕ) (steps : List Step) → AreFollowed steps → AreLogged (destination at.on at.from at.one.object.space) at.one key at.world steps
+steps-logged at key steps followed =
+    logged-from at.one _ _
+    (steps-written (record { world = at.world; reached = at.reached; ran = at.ran; calls = []; one = at.one; same = at.same; told = at.quiet; on = at.on; own = at.own; from = at.from; source = at.source }) at.one.object.space key steps followed tt refl)

@@ -47,10 +47,10 @@ abbrev head_of : {X : Type 0} → List X → Option X
 head_of [] = None
 head_of (x ∷ xs) = Some x
 
-same-head : {X : Type 0} (x y : X) (xs ys : List X) → x ∷ xs ≡ y ∷ ys → x ≡ y
+pub same-head : {X : Type 0} (x y : X) (xs ys : List X) → x ∷ xs ≡ y ∷ ys → x ≡ y
 same-head x y xs ys is = same_Some x y (ap head_of is)
 
-same-tail : {X : Type 0} (x y : X) (xs ys : List X) → x ∷ xs ≡ y ∷ ys → xs ≡ ys
+pub same-tail : {X : Type 0} (x y : X) (xs ys : List X) → x ∷ xs ≡ y ∷ ys → xs ≡ ys
 same-tail x y xs ys is = ap tail_of is
 
 pub turned : (a b : ℕ) → eqb a b ≡ false → eqb b a ≡ false
@@ -76,7 +76,7 @@ none-filter p q (x ∷ xs) none =
 kept-one : {X : Type 0} (x : X) (kept xs : List X) (b : Bool) → b ≡ false → kept ≡ xs → cond (not b) (x ∷ kept) kept ≡ x ∷ xs
 kept-one x kept xs b is same = ap (λ b. cond (not b) (x ∷ kept) kept) is ∙ ap (λ l. x ∷ l) same
 
-all-kept : {X : Type 0} (p : X → Bool) (xs : List X) → list_any p xs ≡ false → filter (λ x. not (p x)) xs ≡ xs
+pub all-kept : {X : Type 0} (p : X → Bool) (xs : List X) → list_any p xs ≡ false → filter (λ x. not (p x)) xs ≡ xs
 all-kept p [] none = refl
 all-kept p (x ∷ xs) none = kept-one x (filter (λ x. not (p x)) xs) xs (p x) (or_first (p x) (list_any p xs) none) (all-kept p xs (or_second (p x) (list_any p xs) none))
 
@@ -313,12 +313,12 @@ none-headed : {X : Type 0} (xs : List X) → head_of xs ≡ None → length xs �
 none-headed [] is = refl
 none-headed (x ∷ xs) is = absurd (none-some x (sym is))
 
-no-faults : (faults : List Fault) (name : ℕ) → first_unread faults name ≡ None → unread_faults faults name ≡ 0
+pub no-faults : (faults : List Fault) (name : ℕ) → first_unread faults name ≡ None → unread_faults faults name ≡ 0
 no-faults faults name none =
     let test = λ (fault : Fault). eqb fault.object name && is_unread fault.phase in
     sym (length-filter test faults) ∙ none-headed (filter test faults) (sym (first-unread faults name) ∙ none)
 
-takes-event : (kernel : Kernel) (key name : ℕ) (object : Object) (message : LogMessage) (found : Option (ℕ × Bool)) (after : Kernel) → is_fault message ≡ false → unread_faults kernel.faults name ≡ 0 →
+pub takes-event : (kernel : Kernel) (key name : ℕ) (object : Object) (message : LogMessage) (found : Option (ℕ × Bool)) (after : Kernel) → is_fault message ≡ false → unread_faults kernel.faults name ≡ 0 →
     teller kernel name message kernel.calls false ≡ found → event_taken kernel message found ≡ Some after → message_taken kernel key name object message 0 ≡ Some after
 takes-event kernel key name object (log.Fault addr flags thread) found after event none is taken = absurd (false≢true (sym event))
 takes-event kernel key name object (log.Fork child) found after event none is taken = rw (none, is) taken

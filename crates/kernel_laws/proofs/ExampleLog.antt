@@ -1,21 +1,21 @@
 -- The log of the example, step by step.
-use Rattle.std.proofs.Common.{◌≡◌, ℕ, ◌+◌, ◌||◌, Bool, true, false, cond, Option, Some, None, List, [], ◌∷◌, ◌++◌, length, refl, sym, ap, subst, ◌∙◌, arith}
+use Rattle.std.proofs.Common.{◌≡◌, ℕ, ◌||◌, Bool, true, false, cond, Option, Some, None, List, [], ◌∷◌, refl, sym, ap, subst, ◌∙◌, arith}
 use Rattle.std.specs.Prelude.{IsOk, Ok, is_some}
 use Rattle.std.specs.Ordering.{nat_cmp}
 use Rattle.std.specs.FinMap as finmap
-use Rattle.std.specs.FinMap.{contains_key, get, get-empty}
+use Rattle.std.specs.FinMap.{get, get-empty}
 use Rattle.std.specs.FinSet as finset
 use Rattle.mig_base.specs.declared.Prot.{Prot}
 use Rattle.mig_base.specs.declared.Prot.TheVariants.{ReadWrite}
 use Rattle.mig_base.specs.declared.Run.{Run}
+use Rattle.mig_base.specs.declared.command.Command.{Command}
 use Rattle.mig_base.specs.declared.effect.Effect.{Effect}
 use Rattle.mig_base.specs.declared.schedule.Step.{Step}
 use Rattle.mig_base.specs.Bits.{is_one}
-use Rattle.mig_base.specs.PageSets.{in_runs}
+use Rattle.mig_base.specs.Commands.{is_access}
 use Rattle.mig_base.specs.Ranges.{in_range}
 use Rattle.mig_base.proofs.PageLemmas.{get-set_range}
 use Rattle.mig_model.specs.Handlers.{AreRunsOf}
-use Rattle.mig_model.specs.Ioctls.{event_features}
 use Rattle.mig_model.specs.Lengths.{text_len}
 use Rattle.mig_model.specs.Migration.{World, answer, first_world, made, next, next_by, outcome, outcome_by}
 use Rattle.mig_model.specs.Promises.{AreAccepted, IsReached}
@@ -28,7 +28,7 @@ use Rattle.uffd_log.specs.declared.call.Message.TheVariants.{Fault}
 use Rattle.uffd_log.specs.declared.line.Answer.TheVariants.{Value}
 use Rattle.kernel_rules.specs.Ioctls.{has_calls, is_offer}
 use Rattle.kernel_laws.specs.Example.{IsOfDestination, its_calls, its_descriptor}
-use Rattle.kernel_laws.specs.Logs.{Arrival, Ended, HaveNoMapCalls, Node, answered, arrived, destination_calls, read_call, destination, first_calls, lines_of_calls, log_of, whole_log}
+use Rattle.kernel_laws.specs.Logs.{AreFollowed, Arrival, Ended, HaveNoMapCalls, IsFollowed, IsNoMapCall, Node, Written, answered, calls_written, destination, destination_writes, first_calls, is_followed, log_of, read_written, then_written, whole_log}
 use Rattle.kernel_laws.proofs.LogRuns.{no_thread_ids}
 use Rattle.kernel_laws.proofs.ExampleWorlds.{carried, discard_frame, eighth-step, eleventh-step, fifth-step, first-step, fourth-step, loading, mapping, ninth-step, owed, package_frame, retried, second-step, seventh-step, sixth-step, stored, storing, tenth-step, third-step, thirteenth-step, twelfth-step, w1, w2, w3, w4, w5, w6, w7, w8, w9, w10, w11, w12, w13}
 
@@ -50,12 +50,12 @@ accepted world new step steps effect is rest =
     (subst (λ r. IsOk r) (sym (is-outcome world new step effect is)) refl, subst (λ w. AreAccepted w steps) (sym (is-next world new step effect is)) rest)
 
 abbrev node : Node
-node = destination its_descriptor 0x20000
+node = destination its_descriptor 0x20000 0
 
-logged : (key : ℕ) (world new : World) (step : Step) (steps : List Step) (effect : Effect) (calls : List Ended) → answer world step ≡ made effect new → node.calls world step ≡ calls →
-    log_of node key world (step ∷ steps) ≡ lines_of_calls key calls ++ log_of node (key + length calls) new steps
-logged key world new step steps effect calls is same =
-    (λ i. lines_of_calls key (same i) ++ log_of node (key + length (same i)) (is-next world new step effect is i) steps)
+logged : (key : ℕ) (world new : World) (step : Step) (steps : List Step) (effect : Effect) (first : Written) → answer world step ≡ made effect new → node.writes key [] world step ≡ first →
+    log_of node key [] world (step ∷ steps) ≡ then_written first (log_of node first.key first.begun new steps)
+logged key world new step steps effect first is same =
+    (λ i. then_written (same i) (log_of node (same i).key (same i).begun (is-next world new step effect is i) steps))
 
 -- The world in which the destination takes the Package
 
@@ -142,29 +142,34 @@ reads = record { call = call.Read its_descriptor None; out = record { answer = V
 abbrev copies : Ended
 copies = answered (call.Copy its_descriptor 0x10000 0x20000 4096 0) (Value 4096)
 
-calls-read : node.calls w8 Step.DestRead ≡ reads ∷ []
-calls-read =
-    ap (destination_calls its_descriptor 0x20000 w8 Step.DestRead) (is-outcome w8 w9 Step.DestRead (Effect.ReadFault 0x10000 false) ninth-step)
-    ∙ ap (λ b. read_call its_descriptor (Some (record { message = Message.PageFault 0x10000 false false (cond b 1 0); cpu = 0 }))) no_thread_ids
+writes-issue : node.writes 3 [] w7 (Step.Issue 0 loading) ≡ calls_written 3 [] []
+writes-issue = ap (destination_writes its_descriptor 0x20000 0 3 [] w7 (Step.Issue 0 loading)) (is-outcome w7 w8 (Step.Issue 0 loading) (Effect.Asleep 0) eighth-step)
 
-calls-act : node.calls w9 Step.DestAct ≡ []
-calls-act = ap (destination_calls its_descriptor 0x20000 w9 Step.DestAct) (is-outcome w9 w10 Step.DestAct (Effect.Requested 0x10000 0x10000) tenth-step)
+writes-read : node.writes 3 [] w8 Step.DestRead ≡ calls_written 3 [] (reads ∷ [])
+writes-read =
+    ap (destination_writes its_descriptor 0x20000 0 3 [] w8 Step.DestRead) (is-outcome w8 w9 Step.DestRead (Effect.ReadFault 0x10000 false) ninth-step)
+    ∙ ap (λ b. read_written its_descriptor 3 [] (Some (record { message = Message.PageFault 0x10000 false false (cond b 1 0); cpu = 0 }))) no_thread_ids
 
-calls-install : node.calls w12 Step.Install ≡ copies ∷ []
-calls-install = ap (destination_calls its_descriptor 0x20000 w12 Step.Install) (is-outcome w12 w13 Step.Install (Effect.Installed 0x10000 0x10000) thirteenth-step)
+writes-act : node.writes 4 [] w9 Step.DestAct ≡ calls_written 4 [] []
+writes-act = ap (destination_writes its_descriptor 0x20000 0 4 [] w9 Step.DestAct) (is-outcome w9 w10 Step.DestAct (Effect.Requested 0x10000 0x10000) tenth-step)
 
-its-log : log_of node 3 w7 its_steps ≡ lines_of_calls 3 (reads ∷ copies ∷ [])
+writes-install : node.writes 4 [] w12 Step.Install ≡ calls_written 4 [] (copies ∷ [])
+writes-install = ap (destination_writes its_descriptor 0x20000 0 4 [] w12 Step.Install) (is-outcome w12 w13 Step.Install (Effect.Installed 0x10000 0x10000) thirteenth-step)
+
+its-log : log_of node 3 [] w7 its_steps ≡ calls_written 3 [] (reads ∷ copies ∷ [])
 its-log =
-    logged 3 w7 w8 (Step.Issue 0 loading) from_read (Effect.Asleep 0) [] eighth-step refl
-    ∙ logged 3 w8 w9 Step.DestRead from_act (Effect.ReadFault 0x10000 false) (reads ∷ []) ninth-step calls-read
-    ∙ ap (λ l. lines_of_calls 3 (reads ∷ []) ++ l)
-    (logged 4 w9 w10 Step.DestAct from_push (Effect.Requested 0x10000 0x10000) [] tenth-step calls-act
-    ∙ logged 4 w10 w11 (Step.Push (record { epoch = 1; page = 16 })) from_delivery _ [] eleventh-step refl
-    ∙ logged 4 w11 w12 (Step.Deliver (text_len carried)) from_install _ [] twelfth-step refl
-    ∙ logged 4 w12 w13 Step.Install from_retry (Effect.Installed 0x10000 0x10000) (copies ∷ []) thirteenth-step calls-install)
+    logged 3 w7 w8 (Step.Issue 0 loading) from_read (Effect.Asleep 0) (calls_written 3 [] []) eighth-step writes-issue
+    ∙ logged 3 w8 w9 Step.DestRead from_act (Effect.ReadFault 0x10000 false) (calls_written 3 [] (reads ∷ [])) ninth-step writes-read
+    ∙ ap (then_written (calls_written 3 [] (reads ∷ [])))
+    (logged 4 w9 w10 Step.DestAct from_push (Effect.Requested 0x10000 0x10000) (calls_written 4 [] []) tenth-step writes-act
+    ∙ logged 4 w10 w11 (Step.Push (record { epoch = 1; page = 16 })) from_delivery _ (calls_written 4 [] []) eleventh-step refl
+    ∙ logged 4 w11 w12 (Step.Deliver (text_len carried)) from_install _ (calls_written 4 [] []) twelfth-step refl
+    ∙ logged 4 w12 w13 Step.Install from_retry (Effect.Installed 0x10000 0x10000) (calls_written 4 [] (copies ∷ [])) thirteenth-step writes-install)
 
-its-whole : whole_log fetched its_steps ≡ lines_of_calls 0 its_calls
-its-whole = ap (λ (w : World). lines_of_calls 0 (first_calls fetched) ++ log_of node 3 w its_steps) it-runs ∙ ap (λ l. lines_of_calls 0 (first_calls fetched) ++ l) its-log
+its-whole : whole_log fetched its_steps ≡ calls_written 0 [] its_calls
+its-whole =
+    ap (λ (w : World). then_written (calls_written 0 [] (first_calls fetched)) (log_of node 3 [] w its_steps)) it-runs
+    ∙ ap (then_written (calls_written 0 [] (first_calls fetched))) its-log
 
 are-accepted : AreAccepted w7 its_steps
 are-accepted =
@@ -175,7 +180,23 @@ are-accepted =
     (accepted w11 w12 (Step.Deliver (text_len carried)) from_install _ twelfth-step
     (accepted w12 w13 Step.Install from_retry (Effect.Installed 0x10000 0x10000) thirteenth-step (retried, tt))))))
 
-pub its : IsOfDestination (lines_of_calls 0 its_calls)
+-- steps without map calls neither move nor clear pages
+one-followed : (step : Step) → IsNoMapCall step → IsFollowed step
+one-followed (Step.Issue cpu command) access = by command access where
+  by : (command : Command) → is_access command ≡ true → is_followed command ≡ true
+  by (Command.Load addr width) is = refl
+  by (Command.Store addr width value) is = refl
+  by (Command.Mmap len prot place) is = refl
+  by (Command.Munmap addr len) is = refl
+  by (Command.Mremap addr old_len new_len may_move fixed) is = is
+  by (Command.DontNeed addr len) is = is
+one-followed step access = tt
+
+pub all-followed : (steps : List Step) → HaveNoMapCalls steps → AreFollowed steps
+all-followed [] none = tt
+all-followed (step ∷ steps) none = (one-followed step none.0, all-followed steps none.1)
+
+pub its : IsOfDestination (calls_written 0 [] its_calls)
 its =
     record {
       it = fetched;

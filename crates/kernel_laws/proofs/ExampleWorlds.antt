@@ -1,7 +1,6 @@
 -- A guest of one processor with one page: it is stored to at the source, and read at the destination before it has come.
 use Rattle.std.proofs.lemmas.Bool.Decides.{nat_tests}
-use Rattle.std.proofs.Common.{◌≡◌, ℕ, ◌+◌, ◌-◌, ◌*◌, ◌&&◌, ◌||◌, Bool, true, false, not, cond, eqb, ltb, Option, Some, None, List, [], ◌∷◌, ◌++◌, arith, refl, sym, ap, subst, ◌∙◌}
-use Rattle.std.specs.Prelude.{Ok, replicate}
+use Rattle.std.proofs.Common.{◌≡◌, ℕ, ◌+◌, ◌-◌, ◌*◌, ◌&&◌, ◌||◌, Bool, true, false, not, cond, ltb, Option, Some, None, List, [], ◌∷◌, arith, refl, sym, ap, ◌∙◌}
 use Rattle.std.specs.Ordering.{nat_cmp}
 use Rattle.std.specs.FinMap as finmap
 use Rattle.std.specs.FinMap.{FinMap, get, get-empty, insert, contains_key, len-empty}
@@ -14,13 +13,12 @@ use Rattle.mig_base.specs.declared.command.Command.TheVariants.{Load, Mmap, Stor
 use Rattle.mig_base.specs.declared.command.Entry.{Entry}
 use Rattle.mig_base.specs.declared.command.Place.TheVariants.{Fixed}
 use Rattle.mig_base.specs.declared.command.Reply.TheVariants.{At, Done}
-use Rattle.mig_base.specs.Flat.{Cell}
-use Rattle.mig_base.specs.Bytes.{page_at, zero_page}
+use Rattle.mig_base.specs.Bytes.{zero_page}
 use Rattle.std.specs.FinMap.{get-retain_keys, retain_keys}
 use Rattle.std.specs.FinSet.{contains-retain, nat_cmp-IsAntisymmetric}
 use Rattle.mig_base.specs.declared.TheConstants.{HIGH_PAGE}
 use Rattle.mig_base.specs.declared.message.Message.{Message}
-use Rattle.mig_base.specs.Userfault.{Noted, fault_queued, thread_id}
+use Rattle.mig_base.specs.Userfault.{Noted, thread_id}
 use Rattle.mig_base.proofs.PageLemmas.{get-remove_range}
 use Rattle.mig_base.proofs.SetLemmas.{member_below, member_without}
 use Rattle.mig_model.specs.Guest.{Fault}
@@ -39,15 +37,14 @@ use Rattle.mig_model.specs.Lengths.{text_len}
 use Rattle.mig_model.specs.Log.{less, no_pages}
 use Rattle.mig_model.specs.NodeSteps.{unless}
 use Rattle.mig_model.specs.Owed.{home, own_places}
-use Rattle.mig_model.specs.Source.{commands_of, not_clean, bytes_of}
-use Rattle.mig_model.specs.Space.{Space}
+use Rattle.mig_model.specs.Source.{not_clean}
 use Rattle.mig_model.specs.Wire.{Copy, Frame, Sent, is_zeros, page_frame}
 use Rattle.mig_model.specs.Destination.{arrived}
 use Rattle.mig_model.proofs.invariant.PackageTaken.{get-own_places, own_place}
 use Rattle.mig_model.proofs.memory.HostLemmas.{get-put}
 use Rattle.mig_model.proofs.owed.SettledLemmas.{home-is}
 use Rattle.mig_model.proofs.steps.StepAnswers.{answers-deliver, answers-dest_read, answers-install, answers-push, answers-start, answers-switch}
-use Rattle.mig_model.proofs.steps.StepWorlds.{after_deliver, after_dest_act, after_dest_read, after_install, after_push, after_start, after_switch}
+use Rattle.mig_model.proofs.steps.StepWorlds.{after_deliver, after_dest_read, after_push, after_start, after_switch}
 use Rattle.mig_base.specs.declared.cpu_state.CpuState.{CpuState}
 use Rattle.mig_base.specs.declared.effect.Effect.{Effect}
 use Rattle.mig_base.specs.declared.schedule.Step.{Step}
@@ -59,8 +56,7 @@ use Rattle.mig_base.specs.Sets.{without}
 use Rattle.mig_base.specs.Userfault.{Object, enabled_with, fresh_object, is_registered, is_watched, unregistered}
 use Rattle.mig_base.proofs.PageLemmas.{get-set_range, len-set_range}
 use Rattle.mig_model.specs.Host.{Host, IsSound, bare_host, memory}
-use Rattle.mig_model.specs.Ioctls.{all_features}
-use Rattle.mig_model.specs.Migration.{World, answer, first_world, made, next, next_by, outcome, outcome_by}
+use Rattle.mig_model.specs.Migration.{World, answer, first_world, made, outcome}
 use Rattle.mig_model.specs.Source.{enabled_space, first_source}
 use Rattle.mig_model.proofs.memory.HostLemmas.{IsSound-empty, IsSound-map, mapped_count-memory, memory-map, memory-some}
 

@@ -27,7 +27,7 @@ use Rattle.kernel_rules.specs.Reads.{first_unread, has_room_for, has_unread, is_
 use Rattle.kernel_rules.specs.State.{Kernel, allowed, is_enabled, noted_if}
 use Rattle.kernel_rules.proofs.Steps.{queues_is}
 use Rattle.kernel_laws.specs.Agreement.{Agree, AgreesAt, AreUnread, Takes, is_message_of, message_of, number_of, telling}
-use Rattle.kernel_laws.specs.Logs.{AreNamed, is_named}
+use Rattle.kernel_laws.specs.Logs.{AreLate, is_late}
 use Rattle.kernel_laws.proofs.Kernels.{is-enabled}
 use Rattle.kernel_laws.proofs.Waiting.{first_unread-append, gone, unread-read}
 
@@ -112,10 +112,16 @@ pub takes-read : (kernel after : Kernel) (key name : ℕ) (object : Object) (roo
     read kernel key name object room (message ∷ []) (Value 1) ≡ Some after
 takes-read kernel after key name object room message enabled fits taken = rw (enabled, fits, taken) refl
 
--- a rule leaves what calls have to tell, and notes no difference but late faults
+-- the address space of an object
+abbrev pub home_of : Option Object → Option ℕ
+home_of None = None
+home_of (Some object) = Some object.space
+
+-- a rule leaves what calls have to tell and the objects' address spaces, and notes no difference but late faults
 pub record Keeps (kernel after : Kernel) : Type 0 where
   pub told : telling after ≡ telling kernel
-  pub differs : (stops : Bool) → AreNamed stops kernel → AreNamed stops after
+  pub homes : (name space : ℕ) → home_of (kernel.objects name) ≡ Some space → home_of (after.objects name) ≡ Some space
+  pub differs : AreLate kernel → AreLate after
 
 pub keeps-none : (b : Bool) (difference : Difference) (kernel now : Kernel) → b ≡ false → Keeps kernel now → Keeps kernel (noted_if b difference now)
 keeps-none true difference kernel now is keeps = absurd (false≢true (sym is))
@@ -125,7 +131,8 @@ keeps-late : (b : Bool) (kernel now : Kernel) → Keeps kernel now → Keeps ker
 keeps-late true kernel now keeps =
     record {
       told = keeps.told;
-      differs = λ stops h. list_any-append (λ difference. not (is_named stops difference)) now.differs (FaultOnItsWay ∷ []) ∙ ap (λ b. b || false) (keeps.differs stops h);
+      homes = keeps.homes;
+      differs = λ h. list_any-append (λ difference. not (is_late difference)) now.differs (FaultOnItsWay ∷ []) ∙ ap (λ b. b || false) (keeps.differs h);
     }
 keeps-late false kernel now keeps = keeps
 
@@ -175,7 +182,7 @@ fault-read space kernel key name object room noted rest agree enabled faults fit
     let agreed = agree-queued space kernel name object fault agree in
     let waiting : Kernel = record kernel { faults = faults_without kernel.faults fault.thread ++ told ∷ [] } in
     let kept : Keeps kernel now =
-    keeps-none twin FaultOfEachThread kernel (noted_if late FaultOnItsWay waiting) (no-twin kernel.faults name fault way.watched agree.unread.none_queued) (keeps-late late kernel waiting (record { told = refl; differs = λ stops h. h })) in
+    keeps-none twin FaultOfEachThread kernel (noted_if late FaultOnItsWay waiting) (no-twin kernel.faults name fault way.watched agree.unread.none_queued) (keeps-late late kernel waiting (record { told = refl; homes = λ name space h. h; differs = λ h. h })) in
     let first : first_unread now.faults name ≡ Some told =
     ap (λ l. first_unread l name) (queued-faults kernel object fault)
     ∙ first_unread-append (faults_without kernel.faults fault.thread) (told ∷ []) name (gone kernel.faults name fault.thread unread.none_queued)
@@ -189,7 +196,7 @@ fault-read space kernel key name object room noted rest agree enabled faults fit
       queued = is-queued kernel name object fault agree.named way.watched way.found way.seen;
       named = agreed.named;
       taken = takes-read now new key name object room (message_of noted.message) (is-enabled agree ∙ enabled) fits (takes-message now key name object told (message_of noted.message) first way.told);
-      keeps = record { told = kept.told; differs = kept.differs };
+      keeps = record { told = kept.told; homes = kept.homes; differs = kept.differs };
       agree = agree-requeued space now name object kernel.faults new.faults rest agreed left;
     }
 

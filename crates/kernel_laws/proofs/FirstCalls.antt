@@ -39,12 +39,13 @@ use Rattle.kernel_rules.specs.MapCalls.{returned}
 use Rattle.kernel_rules.specs.Runs.{Leads, line_of, lines_of, on_object, on_space}
 use Rattle.kernel_rules.specs.State.{Kernel, asked_for, fresh_kernel, is_within, with_object}
 use Rattle.kernel_laws.specs.Agreement.{Agree, AreMapped, Counterparts, Takes, answer_of_api, answer_of_register}
-use Rattle.kernel_laws.specs.Logs.{Arrival, HasRun, destination, HaveNoMapCalls, IsLogged, IsQuiet, Running, answered, arrived, at_rest, first_calls, lines_of_call, lines_of_calls, log_of, register_calls, space_after, whole_log}
+use Rattle.kernel_laws.specs.Logs.{AreFollowed, Arrival, HasRun, answered, arrived, at_rest, destination, first_calls, lines_of_call, lines_of_calls, log_of, register_calls, space_after, under_way, whole_log}
 use Rattle.kernel_laws.proofs.Accesses.{asked}
 use Rattle.kernel_laws.proofs.FaultReads.{Keeps, keeps-none}
 use Rattle.kernel_laws.proofs.Followed.{both_fail}
-use Rattle.kernel_laws.proofs.DestinationRuns.{steps-logged}
-use Rattle.kernel_laws.proofs.LogRuns.{agree-returned, allowed-is, call-leads, call_steps, leads-append, logged-rule, stays, then-logged}
+use Rattle.kernel_laws.proofs.DestinationRuns.{steps-written}
+use Rattle.kernel_laws.proofs.LogRuns.{Goes, agree-returned, allowed-is, call-leads, call_steps, homes-with, leads-append, logged-rule, stays, then-logged}
+use Rattle.kernel_laws.proofs.OpenCalls.{AreBelow, HasCalls, Pending, still-below}
 use Rattle.kernel_laws.proofs.Registers.{api-taken, register-taken}
 
 -- userfaultfd(2)
@@ -85,7 +86,7 @@ agree-opened host name sound =
 
 pub opens : (on : Descriptor) → Leads (at_rest fresh_kernel) (call_steps 0 (answered (call.Open false 0x800) (Opened on))) (at_rest (returned (opened_kernel on.object) 0))
 unfolding on_space is_one none_below
-opens on = call-leads fresh_kernel (opened_kernel on.object) 0 (answered (call.Open false 0x800) (Opened on)) refl refl refl refl
+opens on = call-leads [] fresh_kernel (opened_kernel on.object) 0 on.object (answered (call.Open false 0x800) (Opened on)) tt refl refl refl refl
 
 -- UFFDIO_API
 
@@ -93,14 +94,14 @@ shaken-keeps : (one : Counterparts) (offer : ℕ) (after : Kernel) → rules.sha
 unfolding is_one none_below
 shaken-keeps one offer after is =
     subst (Keeps one.kernel) (allowed-is _ _ after is)
-    (keeps-none (not (is_within event_features 0x14d)) OtherFeatures one.kernel (with_object one.kernel one.name (record one.object { features = Some event_features })) refl (record { told = refl; differs = λ stops h. h }))
+    (keeps-none (not (is_within event_features 0x14d)) OtherFeatures one.kernel (with_object one.kernel one.name (record one.object { features = Some event_features })) refl (record { told = refl; homes = homes-with one (record one.object { features = Some event_features }) refl; differs = λ h. h }))
 
-api-logged : (stops : Bool) (one : Counterparts) (on : Descriptor) (offer key : ℕ) → IsQuiet one.kernel → on.object ≡ one.name → rules.is_offer all_features offer ≡ true → one.space.object.faults ≡ [] → handshake_error one.space 0xaa event_features ≡ None →
-    IsLogged stops one (lines_of_call key (answered (call.Api on 0xaa event_features) (Features all_features offer))) (handshaken one.space 0xaa event_features)
+api-logged : (one : Counterparts) (on : Descriptor) (offer key : ℕ) → HasCalls [] one → on.object ≡ one.name → rules.is_offer all_features offer ≡ true → one.space.object.faults ≡ [] → handshake_error one.space 0xaa event_features ≡ None →
+    Goes [] [] one (lines_of_call key (answered (call.Api on 0xaa event_features) (Features all_features offer))) (handshaken one.space 0xaa event_features)
 unfolding on_object
-api-logged stops one on offer key quiet own offers none accepted =
-    logged-rule stops one key on (answered (call.Api on 0xaa event_features) (Features all_features offer)) (rules.shaken one.kernel one.name one.object 0xaa event_features (Features all_features offer)) (handshaken one.space 0xaa event_features)
-    own refl refl refl refl (shaken-keeps one offer) quiet
+api-logged one on offer key quiet own offers none accepted =
+    logged-rule one key on (answered (call.Api on 0xaa event_features) (Features all_features offer)) (rules.shaken one.kernel one.name one.object 0xaa event_features (Features all_features offer)) (handshaken one.space 0xaa event_features)
+    tt own refl refl refl refl (shaken-keeps one offer) quiet
     (subst (λ error. Takes (rules.shaken one.kernel one.name one.object 0xaa event_features (answer_of_api offer (answered_by error all_features))) (handshaken one.space 0xaa event_features) one.name) accepted
     (api-taken one.space one.kernel one.name one.object 0xaa event_features offer one.agree offers (λ off. none)))
 
@@ -117,7 +118,7 @@ asked-events one start len bits accepted =
 registered-keeps : (one : Counterparts) (start len bits calls : ℕ) (after : Kernel) → register_error one.space start len bits ≡ None → rules.registered one.kernel one.name one.object start len bits (Value calls) ≡ Some after → Keeps one.kernel after
 registered-keeps one start len bits calls after accepted is =
     subst (Keeps one.kernel) (allowed-is _ _ after is)
-    (keeps-none (not (asked_for one.object 2 && asked_for one.object 3 && asked_for one.object 6)) RegisterWithoutEvents one.kernel _ (asked-events one start len bits accepted) (record { told = refl; differs = λ stops h. h }))
+    (keeps-none (not (asked_for one.object 2 && asked_for one.object 3 && asked_for one.object 6)) RegisterWithoutEvents one.kernel _ (asked-events one start len bits accepted) (record { told = refl; homes = λ name space h. h; differs = λ h. h }))
 
 left-host : (error : Option Errno) (old new : Space) → new.host ≡ old.host → (left_by error old new).host ≡ old.host
 left-host None old new same = same
@@ -132,44 +133,44 @@ mapped-run space run areas mapped page inside =
     mapped page
     (or_left (in_range run.first run.count page) (in_runs areas page) (sym (λ i. in_range (pages_again run.first i) (pages_again run.count i) page) ∙ inside))
 
-register-logged : (stops : Bool) (one : Counterparts) (on : Descriptor) (bits calls key : ℕ) (run : Run) (areas : List Run) → IsQuiet one.kernel → on.object ≡ one.name → rules.has_calls calls ≡ true → register_error one.space (4096 * run.first) (4096 * run.count) bits ≡ None →
+register-logged : {pending : List Pending} (one : Counterparts) (on : Descriptor) (bits calls key : ℕ) (run : Run) (areas : List Run) → AreBelow key pending → HasCalls pending one → on.object ≡ one.name → rules.has_calls calls ≡ true → register_error one.space (4096 * run.first) (4096 * run.count) bits ≡ None →
     HaveAreas one.space (run ∷ areas) →
-    IsLogged stops one (lines_of_call key (answered (call.Register on (4096 * run.first) (4096 * run.count) bits) (Value calls))) (registered one.space (4096 * run.first) (4096 * run.count) bits)
+    Goes pending pending one (lines_of_call key (answered (call.Register on (4096 * run.first) (4096 * run.count) bits) (Value calls))) (registered one.space (4096 * run.first) (4096 * run.count) bits)
 unfolding on_object
-register-logged stops one on bits calls key run areas quiet own has accepted mapped =
+register-logged one on bits calls key run areas below quiet own has accepted mapped =
     let start = 4096 * run.first in
     let len = 4096 * run.count in
     let new = registered one.space start len bits in
-    logged-rule stops one key on (answered (call.Register on start len bits) (Value calls)) (rules.registered one.kernel one.name one.object start len bits (Value calls)) new own refl refl refl refl (λ after. registered-keeps one start len bits calls after accepted) quiet
+    logged-rule one key on (answered (call.Register on start len bits) (Value calls)) (rules.registered one.kernel one.name one.object start len bits (Value calls)) new below own refl refl refl refl (λ after. registered-keeps one start len bits calls after accepted) quiet
     (subst (λ error. Takes (rules.registered one.kernel one.name one.object start len bits (answer_of_register calls error)) new one.name) accepted
     (register-taken one.space one.kernel one.name one.object start len bits calls one.agree has (λ none. mapped-run one.space run areas mapped)))
 
-pub registers-logged : (stops : Bool) (one : Counterparts) (on : Descriptor) (bits calls key : ℕ) (areas : List Run) → IsQuiet one.kernel → on.object ≡ one.name → rules.has_calls calls ≡ true → MayRegister one.space areas bits → HaveAreas one.space areas →
-    IsLogged stops one (lines_of_calls key (register_calls on bits calls areas)) (registered_in_turn one.space areas bits)
-registers-logged stops one on bits calls key [] quiet own has accepted mapped = stays stops one one.space refl quiet
-registers-logged stops one on bits calls key (run ∷ areas) quiet own has accepted mapped =
+pub registers-logged : {pending : List Pending} (one : Counterparts) (on : Descriptor) (bits calls key : ℕ) (areas : List Run) → AreBelow key pending → HasCalls pending one → on.object ≡ one.name → rules.has_calls calls ≡ true → MayRegister one.space areas bits → HaveAreas one.space areas →
+    Goes pending pending one (lines_of_calls key (register_calls on bits calls areas)) (registered_in_turn one.space areas bits)
+registers-logged one on bits calls key [] below quiet own has accepted mapped = stays one one.space refl quiet
+registers-logged {pending = pending} one on bits calls key (run ∷ areas) below quiet own has accepted mapped =
     let start = 4096 * run.first in
     let len = 4096 * run.count in
     let ended = answered (call.Register on start len bits) (Value calls) in
-    let first = register-logged stops one on bits calls key run areas quiet own has accepted.0 mapped in
+    let first = register-logged one on bits calls key run areas below quiet own has accepted.0 mapped in
     let host = ap (λ (s : Space). s.host) first.leaves ∙ left-host (register_error one.space start len bits) one.space (registered_in one.space (start / 4096) (len / 4096) (mode_of bits)) refl in
     let there : HaveAreas first.last.space areas = λ page inside. ap (λ (h : Host). contains_key h.areas page) host ∙ mapped page (or_right (in_range run.first run.count page) (in_runs areas page) inside) in
-    let rest = registers-logged stops first.last on bits calls (key + 1) areas first.quiet (own ∙ sym first.name) has (subst (λ s. MayRegister s areas bits) (sym first.leaves) accepted.1) there in
-    subst (IsLogged stops one (lines_of_calls key (register_calls on bits calls (run ∷ areas)))) (ap (λ s. registered_in_turn s areas bits) first.leaves)
-    (then-logged stops one (lines_of_call key ended) (lines_of_calls (key + 1) (register_calls on bits calls areas)) (registered one.space start len bits) (registered_in_turn first.last.space areas bits) first rest)
+    let rest = registers-logged first.last on bits calls (key + 1) areas (still-below key (key + 1) pending (omega (arith)) below) first.told (own ∙ sym first.name) has (subst (λ s. MayRegister s areas bits) (sym first.leaves) accepted.1) there in
+    subst (Goes pending pending one (lines_of_calls key (register_calls on bits calls (run ∷ areas)))) (ap (λ s. registered_in_turn s areas bits) first.leaves)
+    (then-logged one (lines_of_call key ended) (lines_of_calls (key + 1) (register_calls on bits calls areas)) (registered one.space start len bits) (registered_in_turn first.last.space areas bits) first rest)
 
 -- both
-first-logged : (stops : Bool) (one : Counterparts) (on : Descriptor) (offer calls : ℕ) (areas : List Run) (new : Space) → IsQuiet one.kernel → on.object ≡ one.name → rules.is_offer all_features offer ≡ true → rules.has_calls calls ≡ true → one.space.object.faults ≡ [] →
+first-logged : (one : Counterparts) (on : Descriptor) (offer calls : ℕ) (areas : List Run) (new : Space) → HasCalls [] one → on.object ≡ one.name → rules.is_offer all_features offer ≡ true → rules.has_calls calls ≡ true → one.space.object.faults ≡ [] →
     handshake_error one.space 0xaa event_features ≡ None → HaveAreas (handshaken one.space 0xaa event_features) areas → AreRegistered (handshaken one.space 0xaa event_features) new areas 1 →
-    IsLogged stops one (lines_of_call 1 (answered (call.Api on 0xaa event_features) (Features all_features offer)) ++ lines_of_calls 2 (register_calls on 1 calls areas)) new
-first-logged stops one on offer calls areas new quiet own offers has none accepted mapped registered =
+    Goes [] [] one (lines_of_call 1 (answered (call.Api on 0xaa event_features) (Features all_features offer)) ++ lines_of_calls 2 (register_calls on 1 calls areas)) new
+first-logged one on offer calls areas new quiet own offers has none accepted mapped registered =
     let api = lines_of_call 1 (answered (call.Api on 0xaa event_features) (Features all_features offer)) in
     let rest = lines_of_calls 2 (register_calls on 1 calls areas) in
-    let shaken = api-logged stops one on offer 1 quiet own offers none accepted in
+    let shaken = api-logged one on offer 1 quiet own offers none accepted in
     let may = subst (λ s. MayRegister s areas 1) (sym shaken.leaves) registered.accepted in
-    let registers = registers-logged stops shaken.last on 1 calls 2 areas shaken.quiet (own ∙ sym shaken.name) has may (subst (λ s. HaveAreas s areas) (sym shaken.leaves) mapped) in
-    subst (IsLogged stops one (api ++ rest)) (ap (λ s. registered_in_turn s areas 1) shaken.leaves ∙ sym registered.leaves)
-    (then-logged stops one api rest (handshaken one.space 0xaa event_features) (registered_in_turn shaken.last.space areas 1) shaken registers)
+    let registers = registers-logged shaken.last on 1 calls 2 areas tt shaken.told (own ∙ sym shaken.name) has may (subst (λ s. HaveAreas s areas) (sym shaken.leaves) mapped) in
+    subst (Goes [] [] one (api ++ rest)) (ap (λ s. registered_in_turn s areas 1) shaken.leaves ∙ sym registered.leaves)
+    (then-logged one api rest (handshaken one.space 0xaa event_features) (registered_in_turn shaken.last.space areas 1) shaken registers)
 
 -- The whole log
 
@@ -189,8 +190,8 @@ shaken-areas host page =
     ap (λ (h : Host). contains_key h.areas page)
     (left-host (handshake_error (bare_space host) 0xaa event_features) (bare_space host) (record (bare_space host) { object = enabled_with fresh_object event_features }) refl)
 
-pub has-log : (it : Arrival) (steps : List Step) → HaveNoMapCalls steps → HasRun false (whole_log it steps) (space_after (destination it.on it.from) (arrived it) steps)
-has-log it steps none =
+pub has-log : (it : Arrival) (steps : List Step) → AreFollowed steps → HasRun (whole_log it steps) (space_after (destination it.on it.from 0) (arrived it) steps)
+has-log it steps followed =
     let on = it.on in
     let new = arrived it in
     let again = reached-next it.world (Step.Deliver it.n) it.reached in
@@ -198,33 +199,37 @@ has-log it steps none =
     let host = new.destination.guest.space.host in
     let watched = run_registers it.reached.cpus it.world it.n it.count it.areas (bounded-reached it.world it.reached) it.is it.are in
     let kernel = returned (opened_kernel on.object) 0 in
-    let agree = agree-returned (bare_space host) (opened_kernel on.object) 0 on.object opened_object refl (agree-opened host on.object all.ready.kept.spaces.destination_space.host) in
+    let agree = agree-returned [] (bare_space host) (opened_kernel on.object) 0 on.object opened_object tt refl (agree-opened host on.object all.ready.kept.spaces.destination_space.host) in
     let one : Counterparts = record { space = bare_space host; kernel = kernel; name = on.object; object = opened_object; agree = agree } in
     let there : HaveAreas (handshaken (bare_space host) 0xaa event_features) it.areas = λ page inside. shaken-areas host page ∙ sym (it.are.pages page) ∙ inside in
-    let begun = first-logged false one on it.offer it.calls it.areas new.destination.guest.space refl refl it.offers it.has refl watched.handshake there watched.areas in
-    let at : Running =
-    record {
+    let begun = first-logged one on it.offer it.calls it.areas new.destination.guest.space refl refl it.offers it.has refl watched.handshake there watched.areas in
+    let number = length (first_calls it) in
+    let rest =
+    steps-written
+    (record {
       world = new;
       reached = again;
       ran = has-run it.world it.n it.count it.is;
+      calls = [];
       one = begun.last;
       same = begun.leaves;
-      quiet = begun.quiet;
+      told = begun.told;
       on = on;
       own = sym begun.name;
       from = it.from;
       source = it.source;
-    } in
-    let number = length (first_calls it) in
-    let rest = steps-logged at number steps none in
-    let whole = then-logged false one _ (log_of (destination on it.from) number new steps) new.destination.guest.space (space_after (destination on it.from) new steps) begun rest in
+    })
+    0 number steps followed tt (sym begun.home) in
     let opening = call_steps 0 (answered (call.Open false 0x800) (Opened on)) in
+    let log = log_of (destination on it.from 0) number [] new steps in
+    let whole = then-logged one _ log.lines new.destination.guest.space (space_after (destination on it.from 0) new steps) begun rest.goes in
     record {
       steps = opening ++ whole.steps;
       last = whole.last;
       run = record {
         whole = filter_map-append line_of opening whole.steps ∙ ap (λ l. lines_of opening ++ l) whole.whole;
-        leads = leads-append (at_rest fresh_kernel) (at_rest kernel) (at_rest whole.last.kernel) opening whole.steps (opens on) whole.leads;
+        leads = leads-append (at_rest fresh_kernel) (at_rest kernel) (under_way whole.last.kernel log.begun) opening whole.steps (opens on)
+            (subst (λ begun. Leads (at_rest kernel) whole.steps (under_way whole.last.kernel begun)) (sym rest.begun) whole.leads);
       };
       differs = whole.differs refl;
       leaves = whole.leaves;

@@ -12,7 +12,9 @@ pub mod Registers
 pub mod FaultReads
 pub mod Accesses
 pub mod EventReads
+pub mod OpenCalls
 pub mod LogRuns
+pub mod MapRuns
 pub mod DestinationRuns
 pub mod FirstCalls
 pub mod Unnamed

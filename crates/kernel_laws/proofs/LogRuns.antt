@@ -1,7 +1,7 @@
 -- Logs of a node have runs, call by call and step by step.
 use Rattle.kernel_rules.specs.Reads.{first_unread}
 use Rattle.std.proofs.lemmas.Bool.Decides.{nat_tests}
-use Rattle.std.proofs.lemmas.Bool.{false≢true}
+use Rattle.std.proofs.lemmas.Bool.{eqb-true, false≢true}
 use Rattle.std.proofs.lemmas.List.Elements.{filter_map-append}
 use Rattle.std.proofs.lemmas.Option.{none-some, same_Some}
 use Rattle.std.proofs.Common.{◌≡◌, ℕ, ◌+◌, ◌*◌, ◌≤◌, ◌^◌, Bool, true, false, not, cond, eqb, ltb, Option, Some, None, List, [], ◌∷◌, ◌++◌, length, arith, refl, sym, ap, subst, ◌∙◌, ◌&&◌, ◌/◌}
@@ -19,8 +19,7 @@ use Rattle.mig_base.specs.Commands.{is_access, is_store, page_of}
 use Rattle.mig_base.specs.Messages.{fault_flags}
 use Rattle.mig_base.specs.Ranges.{in_range}
 use Rattle.mig_base.specs.Tests.{is_empty}
-use Rattle.mig_base.specs.Userfault.{Noted, message_read, next_message, next_of, waits_fault}
-use Rattle.mig_base.proofs.TestLemmas.{eqb-self}
+use Rattle.mig_base.specs.Userfault.{Noted, message_read, next_of, waits_fault}
 use Rattle.mig_model.specs.Ioctls.{event_features}
 use Rattle.mig_model.specs.Migration.{World, next, outcome}
 use Rattle.mig_model.specs.Space.{Space, access_of, accessed, accessed_by}
@@ -39,18 +38,19 @@ use Rattle.kernel_rules.specs.Runs as runs
 use Rattle.kernel_rules.specs.Runs.{Event, IsStep, Leads, Outcome, begins, ends, effect_at_end, effect_of, begun_of, is_still, lines_of, line_of, object_of, on_object, takes, world_with}
 use Rattle.kernel_rules.specs.State.{Kernel, allowed, of_object}
 use Rattle.kernel_laws.specs.Agreement.{Agree, AreUntold, Counterparts, Takes, message_of, telling}
-use Rattle.kernel_laws.specs.Handlers.{copies_page, wakes_page, zeroes_page}
-use Rattle.kernel_laws.specs.Logs.{AreNamed, Ended, HaveNoMapCalls, IsLogged, IsNoMapCall, IsQuiet, Node, space_after, answered, at_rest, lines_of_call, lines_of_calls, log_of, read_call}
+use Rattle.kernel_laws.specs.Handlers.{copies_page, zeroes_page}
+use Rattle.kernel_laws.specs.Logs.{AreLate, Ended, IsLogged, IsQuiet, Node, Written, answered, at_rest, calls_written, lines_of_call, lines_of_calls, log_of, read_call, space_after, then_written, under_way, AreFollowed, IsFollowed}
 use Rattle.kernel_laws.specs.Reading.{makes}
 use Rattle.kernel_laws.proofs.Accesses.{makes-taken}
-use Rattle.kernel_laws.proofs.FaultReads.{Keeps, fault-read, keeps-none, none-unread, requeued}
+use Rattle.kernel_laws.proofs.FaultReads.{Keeps, fault-read, home_of, keeps-none, none-unread, requeued}
+use Rattle.kernel_laws.proofs.OpenCalls.{AreBelow, HasCalls, Pending, apart, begun_calls, but-last, last-begun, none-begun, open_of, others-return, others-stay, still-below, telling_of}
 use Rattle.mig_base.specs.declared.command.Errno.{Errno}
 use Rattle.mig_base.specs.Tests.{first_holding, is_every}
 use Rattle.mig_base.specs.Userfault.{changing}
 use Rattle.mig_model.specs.Ioctls.{is_bad_range, writeprotect_error}
 use Rattle.kernel_rules.specs.declared.calling.Protecting.{Protecting}
 use Rattle.kernel_rules.specs.declared.difference.Difference.TheVariants.{WriteProtectOverAHole}
-use Rattle.kernel_rules.specs.Ioctls.{kept_pages, pages_set, with_protected, without_protected}
+use Rattle.kernel_rules.specs.Ioctls.{kept_pages, pages_set, waked, with_protected, without_protected}
 use Rattle.kernel_rules.specs.State.{each_page, noted_if}
 use Rattle.kernel_laws.specs.Handlers.{protects_pages}
 use Rattle.kernel_laws.proofs.Protects.{each-protected}
@@ -61,95 +61,140 @@ pub leads-append : (a b c : runs.World) (steps more : List runs.Step) → Leads 
 leads-append a b c [] more first second = subst (λ w. Leads w more c) (sym first) second
 leads-append a b c (step ∷ steps) more first second = (first.0, first.1, leads-append first.0 b c steps more first.2 second)
 
--- nothing happens
-pub stays : (stops : Bool) (one : Counterparts) (space : Space) → one.space ≡ space → IsQuiet one.kernel → IsLogged stops one [] space
-stays stops one space same quiet = record { steps = []; last = one; whole = refl; leads = refl; leaves = same; name = refl; quiet = quiet; differs = λ h. h }
+-- a run of these lines leads from a kernel whose object agrees with the model's to one whose object agrees with this space, and from these map
+-- calls under way to those
+pub record Goes (before after : List Pending) (one : Counterparts) (lines : List Event) (space : Space) : Type 0 where
+  pub steps : List runs.Step
+  pub last : Counterparts
+  pub whole : lines_of steps ≡ lines
+  pub leads : Leads (under_way one.kernel (map open_of before)) steps (under_way last.kernel (map open_of after))
+  pub leaves : last.space ≡ space
+  pub name : last.name ≡ one.name
+  pub home : last.object.space ≡ one.object.space
+  pub told : HasCalls after last
+  pub differs : AreLate one.kernel → AreLate last.kernel
 
-pub then-logged : (stops : Bool) (one : Counterparts) (lines more : List Event) (space last : Space) → (first : IsLogged stops one lines space) → IsLogged stops first.last more last → IsLogged stops one (lines ++ more) last
-then-logged stops one lines more space last first second =
+-- nothing happens
+pub stays : {calls : List Pending} (one : Counterparts) (space : Space) → one.space ≡ space → HasCalls calls one → Goes calls calls one [] space
+stays one space same told = record { steps = []; last = one; whole = refl; leads = refl; leaves = same; name = refl; home = refl; told = told; differs = λ h. h }
+
+pub then-logged : {before mid after : List Pending} (one : Counterparts) (lines more : List Event) (space last : Space) → (first : Goes before mid one lines space) → Goes mid after first.last more last → Goes before after one (lines ++ more) last
+then-logged {before = before} {mid = mid} {after = after} one lines more space last first second =
     record {
       steps = first.steps ++ second.steps;
       last = second.last;
       whole = filter_map-append line_of first.steps second.steps ∙ (λ i. first.whole i ++ second.whole i);
-      leads = leads-append (at_rest one.kernel) (at_rest first.last.kernel) (at_rest second.last.kernel) first.steps second.steps first.leads second.leads;
+      leads = leads-append (under_way one.kernel (map open_of before)) (under_way first.last.kernel (map open_of mid)) (under_way second.last.kernel (map open_of after)) first.steps second.steps first.leads second.leads;
       leaves = second.leaves;
       name = second.name ∙ first.name;
-      quiet = second.quiet;
+      home = second.home ∙ first.home;
+      told = second.told;
       differs = λ h. second.differs (first.differs h);
     }
 
 -- A call that has returned
 
-told-returned : (kernel : Kernel) (key : ℕ) → IsQuiet kernel → IsQuiet (returned kernel key)
-told-returned kernel key quiet = ap (λ k. telling (returned k key)) quiet
+pub told-returned : (calls : List Pending) (kernel : Kernel) (key name : ℕ) → AreBelow key calls → telling kernel ≡ telling_of name calls → telling (returned kernel key) ≡ telling_of name calls
+told-returned calls kernel key name below told = ap (λ k. telling (returned k key)) told ∙ others-stay name key calls (apart key calls below)
 
-may-return : (kernel : Kernel) (key : ℕ) → IsQuiet kernel → may_return kernel key ≡ true
-may-return kernel key quiet = ap (λ k. may_return k key) quiet
-
-pub agree-returned : (space : Space) (kernel : Kernel) (key name : ℕ) (object : Object) → IsQuiet kernel → Agree space kernel name object → Agree space (returned kernel key) name object
-agree-returned space kernel key name object quiet agree =
+pub agree-returned : (calls : List Pending) (space : Space) (kernel : Kernel) (key name : ℕ) (object : Object) → AreBelow key calls → telling kernel ≡ telling_of name calls → Agree space kernel name object → Agree space (returned kernel key) name object
+agree-returned calls space kernel key name object below told agree =
     record {
       sound = agree.sound;
       named = agree.named;
       features = agree.features;
       unread = agree.unread;
       pages = agree.pages;
-      untold = subst (λ k. AreUntold name k space.object.events) (quiet ∙ sym (told-returned kernel key quiet)) agree.untold;
+      untold = subst (λ k. AreUntold name k space.object.events) (told ∙ sym (told-returned calls kernel key name below told)) agree.untold;
       alone = agree.alone;
       ranged = agree.ranged;
     }
 
--- the steps of a call: its lines, and its effect between them
-abbrev pub call_steps : ℕ → Ended → List runs.Step
-call_steps key ended =
-    runs.Step.line (begins (record { key = key; space = 0; call = ended.call; last = false })) ∷ runs.Step.effect key ended.out
+-- the steps of a call in an address space: its lines, and its effect between them
+abbrev pub steps_in : (home key : ℕ) → Ended → List runs.Step
+steps_in home key ended =
+    runs.Step.line (begins (record { key = key; space = home; call = ended.call; last = false })) ∷ runs.Step.effect key ended.out
     ∷ runs.Step.line (ends key ended.out) ∷ []
 
-takes-effect : (kernel after : Kernel) (made : Made) (out : Outcome) → takes kernel made out ≡ Some after →
-    effect_of (record { kernel = kernel; begun = record { made = made; out = None } ∷ [] }) (begun_of (record { made = made; out = None } ∷ []) made.key) made.key out ≡ Some (record { kernel = after; begun = record { made = made; out = Some out } ∷ [] })
-takes-effect kernel after made out taken = rw (eqb-self made.key, eqb-self made.key, taken) refl
+abbrev pub call_steps : ℕ → Ended → List runs.Step
+call_steps key ended = steps_in 0 key ended
 
-pub call-leads : (kernel after : Kernel) (key : ℕ) (ended : Ended) → takes kernel (record { key = key; space = 0; call = ended.call; last = false }) ended.out ≡ Some after → is_still ended.out ≡ true → Some ended.out ≡ effect_at_end ended.out.answer ended.out →
-    IsQuiet after → Leads (at_rest kernel) (call_steps key ended) (at_rest (returned after key))
-call-leads kernel after key ended taken still out quiet =
-    let made : Made = record { key = key; space = 0; call = ended.call; last = false } in
+pub takes-effect : (calls : List Pending) (kernel after : Kernel) (made : Made) (out : Outcome) → list_any (λ (one : Pending). eqb one.key made.key) calls ≡ false → takes kernel made out ≡ Some after →
+    effect_of (record { kernel = kernel; begun = begun_calls calls ++ record { made = made; out = None } ∷ [] }) (begun_of (begun_calls calls ++ record { made = made; out = None } ∷ []) made.key) made.key out
+    ≡ Some (record { kernel = after; begun = begun_calls calls ++ record { made = made; out = Some out } ∷ [] })
+takes-effect calls kernel after made out none taken =
+    let begun : runs.Begun = record { made = made; out = None } in
+    let over : runs.Begun = record { made = made; out = Some out } in
+    ap (λ o. effect_of (record { kernel = kernel; begun = begun_calls calls ++ begun ∷ [] }) o made.key out) (last-begun made.key calls begun refl none)
+    ∙ (λ i. world_with (record { kernel = kernel; begun = but-last made.key calls begun refl none i ++ over ∷ [] }) (taken i))
+
+-- its end, with those that have begun before
+pub call-ends : (calls : List Pending) (after : Kernel) (made : Made) (out : Outcome) → list_any (λ (one : Pending). eqb one.key made.key) calls ≡ false → is_still out ≡ true → Some out ≡ effect_at_end out.answer out → may_return after made.key ≡ true →
+    IsStep (record { kernel = after; begun = begun_calls calls ++ record { made = made; out = Some out } ∷ [] }) (runs.Step.line (ends made.key out)) (under_way (returned after made.key) (map open_of calls))
+call-ends calls after made out none still is may =
+    let over : runs.Begun = record { made = made; out = Some out } in
+    (over, still, last-begun made.key calls over refl none, may, is, ap (λ b. record { kernel = returned after made.key; begun = b }) (sym (but-last made.key calls over refl none)))
+
+pub leads-in : (calls : List Pending) (kernel after : Kernel) (home key name : ℕ) (ended : Ended) → AreBelow key calls → takes kernel (record { key = key; space = home; call = ended.call; last = false }) ended.out ≡ Some after → is_still ended.out ≡ true →
+    Some ended.out ≡ effect_at_end ended.out.answer ended.out → may_return after key ≡ true → Leads (under_way kernel (map open_of calls)) (steps_in home key ended) (under_way (returned after key) (map open_of calls))
+leads-in calls kernel after home key name ended below taken still out may =
+    let made : Made = record { key = key; space = home; call = ended.call; last = false } in
     let begun : runs.Begun = record { made = made; out = None } in
     let over : runs.Begun = record { made = made; out = Some ended.out } in
-    let returns : IsStep (record { kernel = after; begun = over ∷ [] }) (runs.Step.line (ends key ended.out)) (at_rest (returned after key)) = (
-      over,
-      still,
-      ap (λ b. cond b (Some over) None) (eqb-self key),
-      may-return after key quiet,
-      out,
-      ap (λ b. record { kernel = returned after key; begun = cond (not b) (over ∷ []) [] }) (sym (eqb-self key)),
-    ) in (
-      record { kernel = kernel; begun = begun ∷ [] },
-      (refl, refl),
-      (record { kernel = after; begun = over ∷ [] }, takes-effect kernel after made ended.out taken, (at_rest (returned after key), returns, refl)),
+    let none = apart key calls below in (
+      record { kernel = kernel; begun = begun_calls calls ++ begun ∷ [] },
+      (none-begun key calls none, refl),
+      (
+        record { kernel = after; begun = begun_calls calls ++ over ∷ [] },
+        takes-effect calls kernel after made ended.out none taken,
+        (under_way (returned after key) (map open_of calls), call-ends calls after made ended.out none still out may, refl),
+      ),
     )
 
-logged-call : (stops : Bool) (one : Counterparts) (kernel after : Kernel) (key : ℕ) (ended : Ended) (object : Object) (space : Space) (before : List runs.Step) → lines_of before ≡ [] → Leads (at_rest one.kernel) before (at_rest kernel) →
-    takes kernel (record { key = key; space = 0; call = ended.call; last = false }) ended.out ≡ Some after → is_still ended.out ≡ true → Some ended.out ≡ effect_at_end ended.out.answer ended.out → IsQuiet after → (AreNamed stops one.kernel → AreNamed stops after) → Agree space after one.name object →
-    IsLogged stops one (lines_of_call key ended) space
-logged-call stops one kernel after key ended object space before none first taken still out quiet differs agree =
+pub call-leads : (calls : List Pending) (kernel after : Kernel) (key name : ℕ) (ended : Ended) → AreBelow key calls → takes kernel (record { key = key; space = 0; call = ended.call; last = false }) ended.out ≡ Some after → is_still ended.out ≡ true →
+    Some ended.out ≡ effect_at_end ended.out.answer ended.out → telling after ≡ telling_of name calls → Leads (under_way kernel (map open_of calls)) (call_steps key ended) (under_way (returned after key) (map open_of calls))
+call-leads calls kernel after key name ended below taken still out told =
+    leads-in calls kernel after 0 key name ended below taken still out (ap (λ k. may_return k key) told ∙ others-return name key calls (apart key calls below))
+
+logged-call : {calls : List Pending} (one : Counterparts) (kernel after : Kernel) (key : ℕ) (ended : Ended) (object : Object) (space : Space) (before : List runs.Step) → AreBelow key calls → lines_of before ≡ [] →
+    Leads (under_way one.kernel (map open_of calls)) before (under_way kernel (map open_of calls)) →
+    takes kernel (record { key = key; space = 0; call = ended.call; last = false }) ended.out ≡ Some after → is_still ended.out ≡ true → Some ended.out ≡ effect_at_end ended.out.answer ended.out → telling after ≡ telling_of one.name calls → object.space ≡ one.object.space →
+    (AreLate one.kernel → AreLate after) → Agree space after one.name object → Goes calls calls one (lines_of_call key ended) space
+logged-call {calls = calls} one kernel after key ended object space before below none first taken still out told home differs agree =
     record {
       steps = before ++ call_steps key ended;
-      last = record { space = space; kernel = returned after key; name = one.name; object = object; agree = agree-returned space after key one.name object quiet agree };
+      last = record { space = space; kernel = returned after key; name = one.name; object = object; agree = agree-returned calls space after key one.name object below told agree };
       whole = filter_map-append line_of before (call_steps key ended) ∙ ap (λ l. l ++ lines_of (call_steps key ended)) none;
-      leads = leads-append (at_rest one.kernel) (at_rest kernel) (at_rest (returned after key)) before (call_steps key ended) first (call-leads kernel after key ended taken still out quiet);
+      leads = leads-append (under_way one.kernel (map open_of calls)) (under_way kernel (map open_of calls)) (under_way (returned after key) (map open_of calls)) before (call_steps key ended) first
+          (call-leads calls kernel after key one.name ended below taken still out told);
       leaves = refl;
       name = refl;
-      quiet = told-returned after key quiet;
+      home = home;
+      told = told-returned calls after key one.name below told;
       differs = differs;
     }
 
+-- the object of a name has the address space that it had
+pub same-home : (one : Counterparts) (after : Kernel) (object : Object) → Keeps one.kernel after → after.objects one.name ≡ Some object → object.space ≡ one.object.space
+same-home one after object keeps named = same_Some object.space one.object.space (ap home_of (sym named) ∙ keeps.homes one.name one.object.space (ap home_of one.agree.named))
+
+homes-by : (kernel : Kernel) (name other space : ℕ) (object new : Object) (b : Bool) → eqb name other ≡ b → kernel.objects name ≡ Some object → new.space ≡ object.space → home_of (kernel.objects other) ≡ Some space → home_of (cond b (Some new) (kernel.objects other)) ≡ Some space
+homes-by kernel name other space object new true is named same h = ap (λ n. Some n) same ∙ ap home_of (sym named) ∙ ap (λ n. home_of (kernel.objects n)) (eqb-true name other is) ∙ h
+homes-by kernel name other space object new false is named same h = h
+
+-- an object of the same address space takes its place
+pub homes-with : (one : Counterparts) (new : Object) → new.space ≡ one.object.space → (other space : ℕ) → home_of (one.kernel.objects other) ≡ Some space → home_of (cond (eqb one.name other) (Some new) (one.kernel.objects other)) ≡ Some space
+homes-with one new same other space h = homes-by one.kernel one.name other space one.object new (eqb one.name other) refl one.agree.named same h
+
 -- a rule of one call that has taken it
-pub logged-rule : (stops : Bool) (one : Counterparts) (key : ℕ) (on : Descriptor) (ended : Ended) (rule : Option Kernel) (space : Space) → on.object ≡ one.name → object_of ended.call ≡ Some on.object → on_object one.kernel key one.name one.object false ended.out ended.call ≡ rule →
-    is_still ended.out ≡ true → Some ended.out ≡ effect_at_end ended.out.answer ended.out → ((after : Kernel) → rule ≡ Some after → Keeps one.kernel after) → IsQuiet one.kernel → Takes rule space one.name →
-    IsLogged stops one (lines_of_call key ended) space
-logged-rule stops one key on ended rule space own called is still out keeps quiet takes_it =
+pub logged-rule : {calls : List Pending} (one : Counterparts) (key : ℕ) (on : Descriptor) (ended : Ended) (rule : Option Kernel) (space : Space) → AreBelow key calls → on.object ≡ one.name → object_of ended.call ≡ Some on.object →
+    on_object one.kernel key one.name one.object false ended.out ended.call ≡ rule →
+    is_still ended.out ≡ true → Some ended.out ≡ effect_at_end ended.out.answer ended.out → ((after : Kernel) → rule ≡ Some after → Keeps one.kernel after) → HasCalls calls one → Takes rule space one.name →
+    Goes calls calls one (lines_of_call key ended) space
+logged-rule one key on ended rule space below own called is still out keeps told takes_it =
     let kept = keeps takes_it.kernel takes_it.taken in
-    logged-call stops one one.kernel takes_it.kernel key ended takes_it.object space [] refl refl (taken-by one key on ended rule takes_it.kernel own called is takes_it.taken) still out (kept.told ∙ quiet) (kept.differs stops) takes_it.agree
+    logged-call one one.kernel takes_it.kernel key ended takes_it.object space [] below refl refl (taken-by one key on ended rule takes_it.kernel own called is takes_it.taken) still out (kept.told ∙ told)
+    (same-home one takes_it.kernel takes_it.object kept takes_it.agree.named) kept.differs takes_it.agree
   where
     taken-by : (one : Counterparts) (key : ℕ) (on : Descriptor) (ended : Ended) (rule : Option Kernel) (after : Kernel) → on.object ≡ one.name → object_of ended.call ≡ Some on.object →
         on_object one.kernel key one.name one.object false ended.out ended.call ≡ rule → rule ≡ Some after → takes one.kernel (record { key = key; space = 0; call = ended.call; last = false }) ended.out ≡ Some after
@@ -174,7 +219,7 @@ woken-keeps : (kernel put : Kernel) (name first count : ℕ) (answered : Bool) �
 woken-keeps kernel put name first count answered none keeps =
     let test = λ (fault : Fault). sleeps_in name first count fault && is_unread fault.phase in
     keeps-none (list_any test put.faults) FaultTakenAway kernel (faults_over put (sleeps_in name first count) answered)
-    (none-unread test name (λ fault h. asleep-unread (eqb fault.object name) (in_range first count fault.page) (not (is_seen fault.phase)) (is_unread fault.phase) h) put.faults none) (record { told = keeps.told; differs = keeps.differs })
+    (none-unread test name (λ fault h. asleep-unread (eqb fault.object name) (in_range first count fault.page) (not (is_seen fault.phase)) (is_unread fault.phase) h) put.faults none) (record { told = keeps.told; homes = keeps.homes; differs = keeps.differs })
 
 put-keeps : (kernel put : Kernel) (name first count : ℕ) (b : Bool) → first_unread put.faults name ≡ None → Keeps kernel put → Keeps kernel (cond b put (woken put (sleeps_in name first count) true))
 put-keeps kernel put name first count true none keeps = keeps
@@ -182,16 +227,16 @@ put-keeps kernel put name first count false none keeps = woken-keeps kernel put 
 
 zeroed-keeps : (one : Counterparts) (key addr : ℕ) (after : Kernel) → zeroes_page one key addr ≡ Some after → Keeps one.kernel after
 zeroed-keeps one key addr after is =
-    subst (Keeps one.kernel) (allowed-is _ _ after is) (put-keeps one.kernel _ one.name (addr / 4096) (4096 / 4096) (is_one 0 0) one.agree.unread.none_queued (record { told = refl; differs = λ stops h. h }))
+    subst (Keeps one.kernel) (allowed-is _ _ after is) (put-keeps one.kernel _ one.name (addr / 4096) (4096 / 4096) (is_one 0 0) one.agree.unread.none_queued (record { told = refl; homes = homes-with one (record one.object { puts = true }) refl; differs = λ h. h }))
 
 copied-keeps : (one : Counterparts) (key from addr : ℕ) (after : Kernel) → copies_page one key from addr ≡ Some after → Keeps one.kernel after
 copied-keeps one key from addr after is =
     subst (Keeps one.kernel) (allowed-is _ _ after (unless-none _ _ after is))
-    (put-keeps one.kernel _ one.name (addr / 4096) (4096 / 4096) (is_one 0 0) one.agree.unread.none_queued (record { told = refl; differs = λ stops h. h }))
+    (put-keeps one.kernel _ one.name (addr / 4096) (4096 / 4096) (is_one 0 0) one.agree.unread.none_queued (record { told = refl; homes = homes-with one (record one.object { puts = true }) refl; differs = λ h. h }))
 
-waked-keeps : (one : Counterparts) (addr : ℕ) (after : Kernel) → wakes_page one addr ≡ Some after → Keeps one.kernel after
-waked-keeps one addr after is =
-    subst (Keeps one.kernel) (allowed-is _ _ after is) (woken-keeps one.kernel one.kernel one.name (addr / 4096) (4096 / 4096) true one.agree.unread.none_queued (record { told = refl; differs = λ stops h. h }))
+waked-keeps : (one : Counterparts) (addr len : ℕ) (after : Kernel) → waked one.kernel one.name one.object addr len Done ≡ Some after → Keeps one.kernel after
+waked-keeps one addr len after is =
+    subst (Keeps one.kernel) (allowed-is _ _ after is) (woken-keeps one.kernel one.kernel one.name (addr / 4096) (len / 4096) true one.agree.unread.none_queued (record { told = refl; homes = λ name space h. h; differs = λ h. h }))
 
 -- UFFDIO_WRITEPROTECT: each page of the range is registered for it, and no page of it is protected before the others
 
@@ -203,7 +248,7 @@ kept-keeps : (one : Counterparts) (key first count bits : ℕ) →
     Keeps one.kernel (kept_from one.kernel one.object key first count bits one.kernel.protected) × (first_unread (kept_from one.kernel one.object key first count bits one.kernel.protected).faults one.name ≡ None)
 kept-keeps one key first count bits =
     subst (λ begun. Keeps one.kernel (kept_from one.kernel one.object key first count bits begun) × (first_unread (kept_from one.kernel one.object key first count bits begun).faults one.name ≡ None)) (sym one.agree.alone)
-    (record { told = refl; differs = λ stops h. h }, one.agree.unread.none_queued)
+    (record { told = refl; homes = λ name space h. h; differs = λ h. h }, one.agree.unread.none_queued)
 
 no-hole : (one : Counterparts) (first count : ℕ) (now : Kernel) → is_every (λ page. contains one.space.object.protect page) first count ≡ true →
     noted_if (not (each_page one.kernel one.object.space first count (λ page. page.protect))) WriteProtectOverAHole now ≡ now
@@ -257,37 +302,40 @@ seen-keeps : (found : Option Object) (test : Object → Bool) (now : Object → 
 seen-keeps None test now kernel after keeps is = absurd (none-some after is)
 seen-keeps (Some object) test now kernel after keeps is = subst (Keeps kernel) (allowed-is _ _ after is) (keeps object)
 
-logged-seen : (stops : Bool) (one : Counterparts) (thread page flags : ℕ) (b : Bool) (space : Space) → IsQuiet one.kernel → Takes (cond b (Some one.kernel) (sees one.kernel thread one.name page flags)) space one.name → IsLogged stops one [] space
-logged-seen stops one thread page flags true space quiet it =
+logged-seen : {calls : List Pending} (one : Counterparts) (thread page flags : ℕ) (b : Bool) (space : Space) → HasCalls calls one → Takes (cond b (Some one.kernel) (sees one.kernel thread one.name page flags)) space one.name → Goes calls calls one [] space
+logged-seen {calls = calls} one thread page flags true space told it =
     record {
       steps = [];
       last = record { space = space; kernel = it.kernel; name = one.name; object = it.object; agree = it.agree };
       whole = refl;
-      leads = ap at_rest (same_Some one.kernel it.kernel it.taken);
+      leads = ap (λ k. under_way k (map open_of calls)) (same_Some one.kernel it.kernel it.taken);
       leaves = refl;
       name = refl;
-      quiet = ap telling (sym (same_Some one.kernel it.kernel it.taken)) ∙ quiet;
-      differs = subst (AreNamed stops) (same_Some one.kernel it.kernel it.taken);
+      home = same-home one one.kernel it.object (record { told = refl; homes = λ name space h. h; differs = λ h. h }) (ap (λ (k : Kernel). k.objects one.name) (same_Some one.kernel it.kernel it.taken) ∙ it.agree.named);
+      told = ap telling (sym (same_Some one.kernel it.kernel it.taken)) ∙ told;
+      differs = subst AreLate (same_Some one.kernel it.kernel it.taken);
     }
-logged-seen stops one thread page flags false space quiet it =
-    let kept = seen-keeps (one.kernel.objects one.name) _ _ one.kernel it.kernel (λ object. record { told = refl; differs = λ stops h. h }) it.taken in
+logged-seen {calls = calls} one thread page flags false space told it =
+    let kept = seen-keeps (one.kernel.objects one.name) _ _ one.kernel it.kernel (λ object. record { told = refl; homes = λ name space h. h; differs = λ h. h }) it.taken in
     record {
       steps = runs.Step.thread_sees thread one.name page flags ∷ [];
       last = record { space = space; kernel = it.kernel; name = one.name; object = it.object; agree = it.agree };
       whole = refl;
-      leads = (at_rest it.kernel, ap (λ o. world_with (at_rest one.kernel) o) it.taken, refl);
+      leads = (under_way it.kernel (map open_of calls), ap (λ o. world_with (under_way one.kernel (map open_of calls)) o) it.taken, refl);
       leaves = refl;
       name = refl;
-      quiet = kept.told ∙ quiet;
-      differs = kept.differs stops;
+      home = same-home one it.kernel it.object kept it.agree.named;
+      told = kept.told ∙ told;
+      differs = kept.differs;
     }
 
-logged-made : (stops : Bool) (one : Counterparts) (cpu thread : ℕ) (command : Command) (access : Access) → IsQuiet one.kernel → Takes (makes access one thread command) (accessed_by access one.space cpu command) one.name → IsLogged stops one [] (accessed_by access one.space cpu command)
-logged-made stops one cpu thread command (Answered reply) quiet it = logged-seen stops one thread 0 0 true (accessed_by (Answered reply) one.space cpu command) quiet it
-logged-made stops one cpu thread command Missing quiet it =
-    logged-seen stops one thread (page_of command) (fault_flags (is_store command) false) (waits_fault one.space.object.faults (4096 * page_of command) false) (accessed_by Missing one.space cpu command) quiet it
-logged-made stops one cpu thread command Protected quiet it =
-    logged-seen stops one thread (page_of command) (fault_flags true true) (waits_fault one.space.object.faults (4096 * page_of command) true) (accessed_by Protected one.space cpu command) quiet it
+logged-made : {calls : List Pending} (one : Counterparts) (cpu thread : ℕ) (command : Command) (access : Access) → HasCalls calls one → Takes (makes access one thread command) (accessed_by access one.space cpu command) one.name →
+    Goes calls calls one [] (accessed_by access one.space cpu command)
+logged-made one cpu thread command (Answered reply) told it = logged-seen one thread 0 0 true (accessed_by (Answered reply) one.space cpu command) told it
+logged-made one cpu thread command Missing told it =
+    logged-seen one thread (page_of command) (fault_flags (is_store command) false) (waits_fault one.space.object.faults (4096 * page_of command) false) (accessed_by Missing one.space cpu command) told it
+logged-made one cpu thread command Protected told it =
+    logged-seen one thread (page_of command) (fault_flags true true) (waits_fault one.space.object.faults (4096 * page_of command) true) (accessed_by Protected one.space cpu command) told it
 
 pub no_thread_ids : is_one event_features 8 ≡ false
 unfolding is_one
@@ -296,83 +344,85 @@ no_thread_ids = refl
 -- What a destination that runs has
 
 -- the object asked for no thread numbers, and its pages are registered for missing faults if for any
-pub accessed-logged : (stops : Bool) (one : Counterparts) (cpu : ℕ) (command : Command) → is_access command ≡ true → IsQuiet one.kernel → one.space.object.enabled ≡ true → is_one one.space.object.features 8 ≡ false →
-    (contains one.space.object.protect (page_of command) ≡ true → contains one.space.object.missing (page_of command) ≡ true) → IsLogged stops one [] (accessed one.space cpu command)
-accessed-logged stops one cpu command access quiet enabled unnamed watched =
+pub accessed-logged : {calls : List Pending} (one : Counterparts) (cpu : ℕ) (command : Command) → is_access command ≡ true → HasCalls calls one → one.space.object.enabled ≡ true → is_one one.space.object.features 8 ≡ false →
+    (contains one.space.object.protect (page_of command) ≡ true → contains one.space.object.missing (page_of command) ≡ true) → Goes calls calls one [] (accessed one.space cpu command)
+accessed-logged one cpu command access told enabled unnamed watched =
     let thread = fresh_thread one.kernel.faults in
-    logged-made stops one cpu thread command (access_of one.space command) quiet
+    logged-made one cpu thread command (access_of one.space command) told
     (makes-taken one cpu thread command (access_of one.space command) access enabled (idle one.kernel.faults) (λ ids. absurd (false≢true (sym unnamed ∙ ids))) watched
     (IsSoundSpace-accessed one.space cpu command access one.agree.sound) refl)
 
 -- A step of a handler
 
 -- the calls of a step of a handler, by its outcome
-abbrev made-calls : (Effect → List Ended) → Result Effect Refusal → List Ended
+abbrev pub made-calls : (Effect → List Ended) → Result Effect Refusal → List Ended
 made-calls calls (Ok effect) = calls effect
 made-calls calls (Err refusal) = []
 
-pub by-result : (node : Node) (world : World) (step : Step) (one : Counterparts) (calls : Effect → List Ended) (key : ℕ) (result : Result Effect Refusal) → one.space ≡ node.space world → IsQuiet one.kernel → outcome world step ≡ result →
-    ((effect : Effect) → outcome world step ≡ Ok effect → IsLogged node.stops one (lines_of_calls key (calls effect)) (node.space (next world step))) →
-    IsLogged node.stops one (lines_of_calls key (made-calls calls result)) (node.space (next world step))
-by-result node world step one calls key (Ok effect) same quiet is made = made effect is
-by-result node world step one calls key (Err refusal) same quiet is made = stays node.stops one (node.space (next world step)) (same ∙ sym (ap node.space (next-refused world step refusal is))) quiet
+pub by-result : {pending : List Pending} (node : Node) (world : World) (step : Step) (one : Counterparts) (calls : Effect → List Ended) (key : ℕ) (result : Result Effect Refusal) → one.space ≡ node.space world → HasCalls pending one → outcome world step ≡ result →
+    ((effect : Effect) → outcome world step ≡ Ok effect → Goes pending pending one (lines_of_calls key (calls effect)) (node.space (next world step))) →
+    Goes pending pending one (lines_of_calls key (made-calls calls result)) (node.space (next world step))
+by-result node world step one calls key (Ok effect) same told is made = made effect is
+by-result node world step one calls key (Err refusal) same told is made = stays one (node.space (next world step)) (same ∙ sym (ap node.space (next-refused world step refusal is))) told
 
--- read(2)
+-- read(2) of a page fault
 
 no-events : (events : List Noted) → map (λ (noted : Noted). message_of noted.message) events ≡ [] → events ≡ []
 no-events [] is = refl
 no-events (noted ∷ events) is = absurd (false≢true (ap is_empty is))
 
-quiet-events : (one : Counterparts) → IsQuiet one.kernel → one.space.object.events ≡ []
+pub quiet-events : (one : Counterparts) → HasCalls [] one → one.space.object.events ≡ []
 quiet-events one quiet = no-events one.space.object.events (sym (subst (λ k. AreUntold one.name k one.space.object.events) quiet one.agree.untold).same)
 
-first-fault : (faults events : List Noted) (noted : Noted) → events ≡ [] → next_of faults events ≡ Some noted → (rest : List Noted) × (faults ≡ noted ∷ rest)
+pub first-fault : (faults events : List Noted) (noted : Noted) → events ≡ [] → next_of faults events ≡ Some noted → (rest : List Noted) × (faults ≡ noted ∷ rest)
 first-fault [] events noted none is = absurd (none-some noted (sym (ap (next_of []) none) ∙ is))
 first-fault (fault ∷ faults) events noted none is = (faults, ap (λ n. n ∷ faults) (same_Some fault noted is))
 
 read-space : (space : Space) (noted : Noted) (rest : List Noted) → space.object.faults ≡ noted ∷ rest → record space { object = message_read space.object } ≡ requeued space rest space.object.events
 read-space space noted rest faults = rw faults refl
 
--- the next message is that of a page fault, since no event is unread
-pub read-logged : (stops : Bool) (one : Counterparts) (key : ℕ) (on : Descriptor) (noted : Noted) → on.object ≡ one.name → IsQuiet one.kernel → one.space.object.enabled ≡ true → next_message one.space.object ≡ Some noted →
-    IsLogged stops one (lines_of_calls key (read_call on (Some noted))) (record one.space { object = message_read one.space.object })
+-- read(2) of a message
+abbrev pub read_ended : Descriptor → Noted → Ended
+read_ended on noted = record { call = call.Read on None; out = record { answer = Value 1; messages = message_of noted.message ∷ []; runs = [] } }
+
+pub read-logged : {calls : List Pending} (one : Counterparts) (key : ℕ) (on : Descriptor) (noted : Noted) (rest : List Noted) → AreBelow key calls → on.object ≡ one.name → HasCalls calls one → one.space.object.enabled ≡ true → one.space.object.faults ≡ noted ∷ rest →
+    Goes calls calls one (lines_of_calls key (read_call on (Some noted))) (record one.space { object = message_read one.space.object })
 unfolding on_object
-read-logged stops one key on noted own quiet enabled is =
+read-logged {calls = calls} one key on noted rest below own told enabled first =
     let space = one.space in
-    let first = first-fault space.object.faults space.object.events noted (quiet-events one quiet) is in
-    let took = fault-read space one.kernel key one.name one.object None noted first.0 one.agree enabled first.1 refl in
-    let ended : Ended = record { call = call.Read on None; out = record { answer = Value 1; messages = message_of noted.message ∷ []; runs = [] } } in
-    subst (IsLogged stops one (lines_of_calls key (ended ∷ []))) (sym (read-space space noted first.0 first.1))
-    (logged-call stops one took.now took.new key ended one.object (requeued space first.0 space.object.events) (runs.Step.thread_queues took.thread ∷ []) refl
-    (at_rest took.now, ap (λ o. world_with (at_rest one.kernel) o) took.queued, refl)
+    let took = fault-read space one.kernel key one.name one.object None noted rest one.agree enabled first refl in
+    let ended = read_ended on noted in
+    subst (Goes calls calls one (lines_of_calls key (ended ∷ []))) (sym (read-space space noted rest first))
+    (logged-call one took.now took.new key ended one.object (requeued space rest space.object.events) (runs.Step.thread_queues took.thread ∷ []) below refl
+    (under_way took.now (map open_of calls), ap (λ o. world_with (under_way one.kernel (map open_of calls)) o) took.queued, refl)
     (ap (λ n. of_object (took.now.objects n) (λ object. on_object took.now key n object false ended.out ended.call)) own ∙ ap (λ o. of_object o (λ object. on_object took.now key one.name object false ended.out ended.call)) took.named ∙ took.taken)
-    refl refl (took.keeps.told ∙ quiet) (took.keeps.differs stops) took.agree)
+    refl refl (took.keeps.told ∙ told) refl took.keeps.differs took.agree)
 
 -- One call that has done its work
 
-pub zeropage-logged : (stops : Bool) (one : Counterparts) (key : ℕ) (on : Descriptor) (addr : ℕ) (space : Space) → on.object ≡ one.name → IsQuiet one.kernel → Takes (zeroes_page one key addr) space one.name →
-    IsLogged stops one (lines_of_calls key (answered (call.ZeroPage on addr 4096 0) (Value 4096) ∷ [])) space
+pub zeropage-logged : {calls : List Pending} (one : Counterparts) (key : ℕ) (on : Descriptor) (addr : ℕ) (space : Space) → AreBelow key calls → on.object ≡ one.name → HasCalls calls one → Takes (zeroes_page one key addr) space one.name →
+    Goes calls calls one (lines_of_calls key (answered (call.ZeroPage on addr 4096 0) (Value 4096) ∷ [])) space
 unfolding on_object
-zeropage-logged stops one key on addr space own quiet it =
-    logged-rule stops one key on (answered (call.ZeroPage on addr 4096 0) (Value 4096)) (zeroes_page one key addr) space own refl refl refl refl (zeroed-keeps one key addr) quiet it
+zeropage-logged one key on addr space below own told it =
+    logged-rule one key on (answered (call.ZeroPage on addr 4096 0) (Value 4096)) (zeroes_page one key addr) space below own refl refl refl refl (zeroed-keeps one key addr) told it
 
-pub wake-logged : (stops : Bool) (one : Counterparts) (key : ℕ) (on : Descriptor) (addr : ℕ) (space : Space) → on.object ≡ one.name → IsQuiet one.kernel → Takes (wakes_page one addr) space one.name →
-    IsLogged stops one (lines_of_calls key (answered (call.Wake on addr 4096) Done ∷ [])) space
+pub wake-logged : {calls : List Pending} (one : Counterparts) (key : ℕ) (on : Descriptor) (addr len : ℕ) (space : Space) → AreBelow key calls → on.object ≡ one.name → HasCalls calls one → Takes (waked one.kernel one.name one.object addr len Done) space one.name →
+    Goes calls calls one (lines_of_calls key (answered (call.Wake on addr len) Done ∷ [])) space
 unfolding on_object
-wake-logged stops one key on addr space own quiet it =
-    logged-rule stops one key on (answered (call.Wake on addr 4096) Done) (wakes_page one addr) space own refl refl refl refl (waked-keeps one addr) quiet it
+wake-logged one key on addr len space below own told it =
+    logged-rule one key on (answered (call.Wake on addr len) Done) (waked one.kernel one.name one.object addr len Done) space below own refl refl refl refl (waked-keeps one addr len) told it
 
-pub copy-logged : (stops : Bool) (one : Counterparts) (key from : ℕ) (on : Descriptor) (addr : ℕ) (space : Space) → on.object ≡ one.name → IsQuiet one.kernel → Takes (copies_page one key from addr) space one.name →
-    IsLogged stops one (lines_of_calls key (answered (call.Copy on addr from 4096 0) (Value 4096) ∷ [])) space
+pub copy-logged : {calls : List Pending} (one : Counterparts) (key from : ℕ) (on : Descriptor) (addr : ℕ) (space : Space) → AreBelow key calls → on.object ≡ one.name → HasCalls calls one → Takes (copies_page one key from addr) space one.name →
+    Goes calls calls one (lines_of_calls key (answered (call.Copy on addr from 4096 0) (Value 4096) ∷ [])) space
 unfolding on_object
-copy-logged stops one key from on addr space own quiet it =
-    logged-rule stops one key on (answered (call.Copy on addr from 4096 0) (Value 4096)) (copies_page one key from addr) space own refl refl refl refl (copied-keeps one key from addr) quiet it
+copy-logged one key from on addr space below own told it =
+    logged-rule one key on (answered (call.Copy on addr from 4096 0) (Value 4096)) (copies_page one key from addr) space below own refl refl refl refl (copied-keeps one key from addr) told it
 
-pub protect-logged : (stops : Bool) (one : Counterparts) (key : ℕ) (on : Descriptor) (addr len bits : ℕ) (space : Space) → on.object ≡ one.name → IsQuiet one.kernel → writeprotect_error one.space addr len bits ≡ None →
-    Takes (protects_pages one key addr len bits) space one.name → IsLogged stops one (lines_of_calls key (answered (call.WriteProtect on addr len bits) Done ∷ [])) space
+pub protect-logged : {calls : List Pending} (one : Counterparts) (key : ℕ) (on : Descriptor) (addr len bits : ℕ) (space : Space) → AreBelow key calls → on.object ≡ one.name → HasCalls calls one → writeprotect_error one.space addr len bits ≡ None →
+    Takes (protects_pages one key addr len bits) space one.name → Goes calls calls one (lines_of_calls key (answered (call.WriteProtect on addr len bits) Done ∷ [])) space
 unfolding on_object
-protect-logged stops one key on addr len bits space own quiet error it =
-    logged-rule stops one key on (answered (call.WriteProtect on addr len bits) Done) (protects_pages one key addr len bits) space own refl refl refl refl (λ after. protected-keeps one key addr len bits after error) quiet it
+protect-logged one key on addr len bits space below own told error it =
+    logged-rule one key on (answered (call.WriteProtect on addr len bits) Done) (protects_pages one key addr len bits) space below own refl refl refl refl (λ after. protected-keeps one key addr len bits after error) told it
 
 -- Every list of steps of a node
 
@@ -381,17 +431,66 @@ abbrev pub AreAll : (World → Type 0) → World → List Step → Type 0
 AreAll holds world [] = holds world
 AreAll holds world (step ∷ steps) = holds world × AreAll holds (next world step) steps
 
+-- a test holds of each step
+abbrev pub AreEach : (Step → Type 0) → List Step → Type 0
+AreEach test [] = Unit {0}
+AreEach test (step ∷ steps) = test step × AreEach test steps
+
+pub each-followed : (steps : List Step) → AreFollowed steps → AreEach IsFollowed steps
+each-followed [] followed = tt
+each-followed (step ∷ steps) followed = (followed.0, each-followed steps followed.1)
+
 first-of : (holds : World → Type 0) (world : World) (steps : List Step) → AreAll holds world steps → holds world
 first-of holds world [] all = all
 first-of holds world (step ∷ steps) all = all.0
 
-pub every-logged : (node : Node) (name : ℕ) (holds : World → Type 0) →
-    ((world : World) (one : Counterparts) (key : ℕ) (step : Step) → holds world → holds (next world step) → IsNoMapCall step → one.space ≡ node.space world → IsQuiet one.kernel → name ≡ one.name → IsLogged node.stops one (lines_of_calls key (node.calls world step)) (node.space (next world step))) →
-    (world : World) (one : Counterparts) (key : ℕ) (steps : List Step) → AreAll holds world steps → HaveNoMapCalls steps → one.space ≡ node.space world → IsQuiet one.kernel → name ≡ one.name → IsLogged node.stops one (log_of node key world steps) (space_after node world steps)
-every-logged node name holds logs world one key [] all none same quiet own = stays node.stops one (node.space world) same quiet
-every-logged node name holds logs world one key (step ∷ steps) all none same quiet own =
+-- a part of a log has such a run, after which these map calls are under way, of numbers below the next
+pub record Writes (before : List Pending) (one : Counterparts) (log : Written) (space : Space) : Type 0 where
+  pub after : List Pending
+  pub goes : Goes before after one log.lines space
+  pub begun : log.begun ≡ map open_of after
+  pub below : AreBelow log.key after
+
+-- calls of a handler do
+abbrev pub writes-calls : {before : List Pending} (one : Counterparts) (key : ℕ) (calls : List Ended) (space : Space) → AreBelow key before → Goes before before one (lines_of_calls key calls) space → Writes before one (calls_written key (map open_of before) calls) space
+writes-calls {before = before} one key calls space below goes = record { after = before; goes = goes; begun = refl; below = still-below key (key + length calls) before (omega (arith)) below }
+
+-- and one part after another
+pub then-writes : {before : List Pending} (one : Counterparts) (log more : Written) (space last : Space) → (first : Writes before one log space) → Writes first.after first.goes.last more last → Writes before one (then_written log more) last
+then-writes one log more space last first second =
+    record { after = second.after; goes = then-logged one log.lines more.lines space last first.goes second.goes; begun = second.begun; below = second.below }
+
+-- what each step keeps, of the calls under way
+pub every-logged : (node : Node) (name home : ℕ) (holds : World → Type 0) (test : Step → Type 0) (keeps : List Pending → Type 0) →
+    ((world : World) (before : List Pending) (one : Counterparts) (key : ℕ) (step : Step) → holds world → holds (next world step) → test step → keeps before → AreBelow key before → one.space ≡ node.space world → HasCalls before one → name ≡ one.name → home ≡ one.object.space →
+    (writes : Writes before one (node.writes key (map open_of before) world step) (node.space (next world step))) × keeps writes.after) →
+    (world : World) (before : List Pending) (one : Counterparts) (key : ℕ) (steps : List Step) → AreAll holds world steps → AreEach test steps → keeps before → AreBelow key before → one.space ≡ node.space world → HasCalls before one → name ≡ one.name →
+    home ≡ one.object.space → Writes before one (log_of node key (map open_of before) world steps) (space_after node world steps)
+every-logged node name home holds test keeps logs world before one key [] all each kept below same told own there = record { after = before; goes = stays one (node.space world) same told; begun = refl; below = below }
+every-logged node name home holds test keeps logs world before one key (step ∷ steps) all each kept below same told own there =
     let new = next world step in
-    let first = logs world one key step all.0 (first-of holds new steps all.1) none.0 same quiet own in
-    let number = key + length (node.calls world step) in
-    then-logged node.stops one (lines_of_calls key (node.calls world step)) (log_of node number new steps) (node.space new) (space_after node new steps) first
-    (every-logged node name holds logs new first.last number steps all.1 none.1 first.leaves first.quiet (own ∙ sym first.name))
+    let written = node.writes key (map open_of before) world step in
+    let both = logs world before one key step all.0 (first-of holds new steps all.1) each.0 kept below same told own there in
+    let first = both.0 in
+    let rest = every-logged node name home holds test keeps logs new first.after first.goes.last written.key steps all.1 each.1 both.1 first.below first.goes.leaves first.goes.told (own ∙ sym first.goes.name) (there ∙ sym first.goes.home) in
+    then-writes one written (log_of node written.key written.begun new steps) (node.space new) (space_after node new steps) first
+    (subst (λ begun. Writes first.after first.goes.last (log_of node written.key begun new steps) (space_after node new steps)) (sym first.begun) rest)
+
+-- from a kernel at rest on
+pub logged-from : (one : Counterparts) (log : Written) (space : Space) → Writes [] one log space → IsLogged one log space
+logged-from one log space writes =
+    let goes = writes.goes in
+    record {
+      steps = goes.steps;
+      last = goes.last;
+      whole = goes.whole;
+      leads = subst (λ begun. Leads (at_rest one.kernel) goes.steps (under_way goes.last.kernel begun)) (sym writes.begun) goes.leads;
+      leaves = goes.leaves;
+      name = goes.name;
+      quiet = λ none. quiet-by writes.after goes.last (sym writes.begun ∙ none) goes.told;
+      differs = goes.differs;
+    }
+  where
+    quiet-by : (after : List Pending) (last : Counterparts) → map open_of after ≡ [] → HasCalls after last → IsQuiet last.kernel
+    quiet-by [] last none told = told
+    quiet-by (pending ∷ after) last none told = absurd (false≢true (ap is_empty none))

@@ -1,7 +1,7 @@
 -- munmap(2) and mmap(2) of a guest, by what the flat memory replies.
 use Rattle.std.proofs.lemmas.Bool.Decides.{nat_tests}
-use Rattle.std.proofs.lemmas.Bool.{and_from, false≢true}
-use Rattle.std.proofs.Common.{◌≡◌, ◌≢◌, ℕ, ◌<◌, ◌≤◌, ◌+◌, ◌*◌, ◌/◌, ◌%◌, ◌^◌, ◌&&◌, Bool, true, false, eqb, ltb, Option, Some, None, arith, refl, sym, ap, subst, ◌∙◌}
+use Rattle.std.proofs.lemmas.Bool.{and_from}
+use Rattle.std.proofs.Common.{◌≡◌, ℕ, ◌<◌, ◌≤◌, ◌+◌, ◌*◌, ◌/◌, ◌%◌, ◌^◌, Bool, true, false, eqb, ltb, Option, Some, None, arith, refl, sym, ap, subst, ◌∙◌}
 use Rattle.std.specs.Prelude.{if◌then◌else◌}
 use Rattle.std.specs.FinMap.{FinMap}
 use Rattle.std.specs.Ordering.{nat_cmp}
@@ -15,7 +15,7 @@ use Rattle.mig_base.specs.declared.command.Reply.{Reply}
 use Rattle.mig_base.specs.declared.command.Reply.TheVariants.{At, Done, Refused}
 use Rattle.mig_base.specs.Flat.{mmap_reply, munmap_reply, reply_of}
 use Rattle.mig_base.specs.Pages.{remove_range, set_range}
-use Rattle.mig_base.specs.Ranges.{pages_of, rounded}
+use Rattle.mig_base.specs.Ranges.{pages_of}
 use Rattle.mig_base.specs.Userfault.{is_watched}
 use Rattle.mig_base.proofs.ReplyLemmas.{mmap_inside, munmap_whole}
 use Rattle.mig_model.specs.Host.{host_changed, memory}
@@ -77,7 +77,7 @@ takes-none it cpu command rule taken same =
 
 -- munmap(2)
 
-munmap-done : (addr len : ℕ) → munmap_reply addr len ≡ Done → (has_bytes len ≡ true) × (addr + 4096 * pages_of len ≤ HIGH)
+pub munmap-done : (addr len : ℕ) → munmap_reply addr len ≡ Done → (has_bytes len ≡ true) × (addr + 4096 * pages_of len ≤ HIGH)
 munmap-done addr len is = (grind (arith, nat_tests), grind (arith, nat_tests))
 
 pub munmap-taken : (it : MapCall) (cpu addr len : ℕ) → munmap_reply addr len ≡ Done → Takes (munmapped it.one.kernel it.key it.one.object.space addr len answer.Done) (called it.one.space cpu (Munmap addr len)) it.one.name
@@ -85,7 +85,7 @@ munmap-taken it cpu addr len is =
     let parts = munmap-done addr len is in
     takes-range it cpu addr len (Munmap addr len) Done is (munmap_whole addr len (sym is)) parts.1 parts.0 (remove_range it.one.space.host.areas (addr / 4096) (pages_of len)) refl (IsSoundSpace-called it.one.space cpu (Munmap addr len) refl it.one.agree.sound)
 
-munmap-error : (addr len : ℕ) (errno : Errno) → munmap_reply addr len ≡ Refused errno → is_munmap_error (number_of errno) ≡ true
+pub munmap-error : (addr len : ℕ) (errno : Errno) → munmap_reply addr len ≡ Refused errno → is_munmap_error (number_of errno) ≡ true
 munmap-error addr len errno is = grind (arith, nat_tests)
 
 pub munmap-refused : (it : MapCall) (cpu addr len : ℕ) (errno : Errno) → munmap_reply addr len ≡ Refused errno →

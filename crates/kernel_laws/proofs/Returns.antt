@@ -2,7 +2,7 @@
 use Rattle.std.proofs.lemmas.Bool.Decides.{nat_tests}
 use Rattle.std.proofs.lemmas.Bool.{eqb-true, false≢true, not-true}
 use Rattle.std.proofs.lemmas.List.Concat.{flat_map-cons}
-use Rattle.std.proofs.Common.{◌≡◌, ℕ, ◌&&◌, ◌||◌, Bool, true, false, not, cond, eqb, Option, Some, None, List, [], ◌∷◌, ◌++◌, filter, map, arith, refl, sym, ap, subst, ◌∙◌}
+use Rattle.std.proofs.Common.{◌≡◌, ℕ, ◌&&◌, ◌||◌, Bool, true, false, not, cond, eqb, Option, Some, None, List, [], ◌∷◌, ◌++◌, filter, map, arith, refl, sym, ap, ◌∙◌}
 use Rattle.std.specs.Prelude.{is_some}
 use Rattle.std.specs.List.{flat_map, list_any}
 use Rattle.mig_base.specs.Tests.{is_empty}
@@ -13,7 +13,7 @@ use Rattle.kernel_rules.specs.declared.calling.Span.{Span}
 use Rattle.kernel_rules.specs.declared.calling.Told.{Told}
 use Rattle.kernel_rules.specs.declared.calling.Untold.{Untold}
 use Rattle.kernel_rules.specs.Ioctls.{span_of, tells_object}
-use Rattle.kernel_rules.specs.MapCalls.{has_events, is_told_all, may_return, numbers_without, returned, spans_without, tells_anybody}
+use Rattle.kernel_rules.specs.MapCalls.{has_events, is_told_all, may_return, numbers_without, returned, tells_anybody}
 use Rattle.kernel_rules.specs.State.{Kernel}
 use Rattle.kernel_laws.specs.Agreement.{Agree, AreUntold, Counterparts, are_once, messages_of, removes, telling}
 use Rattle.kernel_laws.proofs.EventReads.{none-filter, spans-gone, spans-left, tells-anybody, turned}

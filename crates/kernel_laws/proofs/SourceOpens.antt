@@ -37,7 +37,7 @@ use Rattle.kernel_rules.specs.MapCalls.{returned}
 use Rattle.kernel_rules.specs.Runs.{Leads, line_of, lines_of, on_object}
 use Rattle.kernel_rules.specs.State.{Kernel, allowed, fresh_kernel, of_object, with_object}
 use Rattle.kernel_laws.specs.Agreement.{Agree, AreUnread, AreUntold, Counterparts, features_of, telling}
-use Rattle.kernel_laws.specs.Logs.{Beginning, HasRun, HaveNoMapCalls, IsUnreleased, Watching, answered, at_rest, source, source_log, space_after, unnamed, unnamed_features, unnamed_noted}
+use Rattle.kernel_laws.specs.Logs.{Beginning, HasRun, AreFollowed, IsUnreleased, Watching, answered, at_rest, log_of, source, source_log, space_after, under_way, unnamed, unnamed_features, unnamed_noted}
 use Rattle.kernel_laws.proofs.FirstCalls.{opened_kernel, opened_object, opens}
 use Rattle.kernel_laws.proofs.LogRuns.{agree-returned, call-leads, call_steps, leads-append}
 use Rattle.kernel_laws.proofs.SourceRuns.{source-logged}
@@ -127,7 +127,7 @@ unfolding on_object
 shakes on offer offers =
     let ended = answered (call.Api on 0xaa unnamed_features) (Features all_features offer) in
     let kernel = returned (opened_kernel on.object) 0 in
-    call-leads kernel (shaken_kernel on.object) 1 ended
+    call-leads [] kernel (shaken_kernel on.object) 1 on.object ended tt
     (ap (λ o. of_object o (λ object. on_object kernel 1 on.object object false ended.out ended.call)) (ap (λ b. cond b (Some opened_object) None) (eqb-self on.object)) ∙ shaken on.object offer offers)
     refl refl refl
 
@@ -157,16 +157,17 @@ agree-shaken world reached name idle =
 
 -- The whole log
 
-pub source-has-log : (it : Beginning) (steps : List Step) → HaveNoMapCalls steps → IsUnreleased it.world steps → HasRun true (source_log it steps) (space_after (source it.by) it.world steps)
-source-has-log it steps none kept =
+pub source-has-log : (it : Beginning) (steps : List Step) → AreFollowed steps → IsUnreleased it.world steps → HasRun (source_log it steps) (space_after (source it.by 0) it.world steps)
+source-has-log it steps followed kept =
     let on = it.by.on in
     let name = on.object in
     let kernel = returned (shaken_kernel name) 1 in
     let space = unnamed it.world.source.guest.space in
-    let agree = agree-returned space (shaken_kernel name) 1 name shaken_object refl (agree-shaken it.world it.reached name it.idle) in
+    let agree = agree-returned [] space (shaken_kernel name) 1 name shaken_object tt refl (agree-shaken it.world it.reached name it.idle) in
     let one : Counterparts = record { space = space; kernel = kernel; name = name; object = shaken_object; agree = agree } in
     let at : Watching = record { world = it.world; reached = it.reached; by = it.by; one = one; same = refl; quiet = refl; own = refl } in
-    let rest = source-logged at 2 steps none kept in
+    let rest = source-logged at 2 steps followed kept in
+    let log = log_of (source it.by 0) 2 [] it.world steps in
     let opening = call_steps 0 (answered (call.Open false 0x800) (Opened on)) in
     let shake = call_steps 1 (answered (call.Api on 0xaa unnamed_features) (Features all_features it.offer)) in
     let first = returned (opened_kernel name) 0 in
@@ -176,7 +177,7 @@ source-has-log it steps none kept =
       last = rest.last;
       run = record {
         whole = filter_map-append line_of (opening ++ shake) rest.steps ∙ ap (λ l. lines_of (opening ++ shake) ++ l) rest.whole;
-        leads = leads-append (at_rest fresh_kernel) (at_rest kernel) (at_rest rest.last.kernel) (opening ++ shake) rest.steps begins rest.leads;
+        leads = leads-append (at_rest fresh_kernel) (at_rest kernel) (under_way rest.last.kernel log.begun) (opening ++ shake) rest.steps begins rest.leads;
       };
       differs = rest.differs refl;
       leaves = rest.leaves;

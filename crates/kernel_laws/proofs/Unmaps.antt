@@ -1,20 +1,18 @@
 -- A map call that unmaps pages: both objects forget them, and both have the same UNMAP to tell if any of them was registered.
 use Rattle.std.proofs.lemmas.Bool.Decides.{nat_tests}
-use Rattle.std.proofs.lemmas.Bool.{eqb-true, false≢true, not-true, not-false}
+use Rattle.std.proofs.lemmas.Bool.{eqb-true, false≢true, not-true}
 use Rattle.std.proofs.lemmas.Grind.{flat_map-append}
 use Rattle.std.proofs.lemmas.List.Concat.{flat_map-cons}
 use Rattle.std.proofs.lemmas.List.Elements.{filter-append}
 use Rattle.std.proofs.lemmas.List.Folds.{list_any-append}
 use Rattle.std.proofs.lemmas.List.{append-nil, map-append}
-use Rattle.std.proofs.lemmas.Option.{none-some, same_Some}
-use Rattle.std.proofs.Common.{◌≡◌, ℕ, zero, suc, ◌<◌, ◌≤◌, ◌+◌, ◌-◌, ◌*◌, ◌/◌, ◌%◌, ◌^◌, ◌&&◌, ◌||◌, Bool, true, false, not, cond, eqb, ltb, leb, Option, Some, None, List, [], ◌∷◌, ◌++◌, filter, length, map, arith, refl, sym, ap, subst, ◌∙◌}
+use Rattle.std.proofs.Common.{◌≡◌, ℕ, zero, suc, ◌<◌, ◌≤◌, ◌+◌, ◌-◌, ◌*◌, ◌^◌, ◌&&◌, ◌||◌, Bool, true, false, not, cond, eqb, leb, Option, Some, None, List, [], ◌∷◌, ◌++◌, filter, length, map, arith, refl, sym, ap, subst, ◌∙◌}
 use Rattle.std.specs.Prelude.{is_some, max, min}
 use Rattle.std.specs.Ordering.{nat_cmp}
 use Rattle.std.specs.List.{flat_map, list_any}
 use Rattle.std.specs.FinMap.{FinMap, contains_key, get}
 use Rattle.std.specs.FinSet.{contains}
 use Rattle.mig_base.specs.declared.Prot.{Prot}
-use Rattle.mig_base.specs.declared.message.Message.{Message}
 use Rattle.mig_base.specs.declared.message.Message.TheVariants.{Unmap}
 use Rattle.mig_base.specs.Bits.{is_one}
 use Rattle.mig_base.specs.Pages.{remove_range}
@@ -23,9 +21,8 @@ use Rattle.mig_base.specs.Sets.{without}
 use Rattle.mig_base.specs.Tests.{is_empty}
 use Rattle.mig_base.specs.Userfault.{Noted, is_registered, is_watched, unregistered}
 use Rattle.mig_base.proofs.PageLemmas.{get-remove_range}
-use Rattle.mig_base.proofs.RangeLemmas.{in_range-true, in_range_bounds, none_below-from, none_below-not}
+use Rattle.mig_base.proofs.RangeLemmas.{in_range_bounds, none_below-not}
 use Rattle.mig_base.proofs.TestLemmas.{and_first, and_second, eqb-self, or_first, or_second}
-use Rattle.mig_model.specs.Ioctls.{has_events}
 use Rattle.mig_model.specs.Space.{IsSoundSpace, Space, all_queued, message_if}
 use Rattle.uffd_log.specs.declared.call.Message.{Message as LogMessage}
 use Rattle.uffd_log.specs.declared.call.Message.TheVariants as log
@@ -34,11 +31,11 @@ use Rattle.kernel_rules.specs.declared.calling.Untold.{Untold}
 use Rattle.kernel_rules.specs.declared.known.Page.{Page}
 use Rattle.kernel_rules.specs.declared.object.Object.{Object}
 use Rattle.kernel_rules.specs.declared.object.Registration.{Registration}
-use Rattle.kernel_rules.specs.Ioctls.{is_own, span_of, tells_object}
+use Rattle.kernel_rules.specs.Ioctls.{is_own, span_of}
 use Rattle.kernel_rules.specs.MapCalls.{forgotten, is_told, objects_in, told_in, unmapped, watchers_of, watches_in, with_calling, with_events, with_name, would_tell}
 use Rattle.kernel_rules.specs.Reads.{is_same_event}
-use Rattle.kernel_rules.specs.State.{Kernel, asked_for, page_is, some_page}
-use Rattle.kernel_laws.specs.Agreement.{Agree, AgreesAt, AreUntold, Counterparts, IsPage, are_once, has_page, have_ranks, is_of_another, message_of, messages_of, removes, telling}
+use Rattle.kernel_rules.specs.State.{Kernel, page_is, some_page}
+use Rattle.kernel_laws.specs.Agreement.{Agree, AgreesAt, AreUntold, Counterparts, are_once, has_page, have_ranks, is_of_another, message_of, messages_of, removes, telling}
 use Rattle.kernel_laws.specs.Maps.{MapCall, is_new_call}
 use Rattle.mig_base.proofs.SetSizes.{only_where}
 use Rattle.kernel_laws.proofs.Accesses.{asked}
@@ -58,7 +55,7 @@ some-step test count false is some rest =
     and_true : (b : Bool) → (b && true) ≡ b
     and_true b = grind (arith, nat_tests)
 
-some-below : (test : ℕ → Bool) (count : ℕ) → not (none_below test count) ≡ true → (i : ℕ) × (i < count) × (test i ≡ true)
+pub some-below : (test : ℕ → Bool) (count : ℕ) → not (none_below test count) ≡ true → (i : ℕ) × (i < count) × (test i ≡ true)
 unfolding none_below
 some-below test zero some = absurd (false≢true some)
 some-below test (suc count) some = some-step test count (test count) refl some (some-below test count)
@@ -186,7 +183,7 @@ kept-told : (told : ℕ → Bool) (name : ℕ) (w : Bool) → told name ≡ true
 kept-told told name true is = ap (λ b. cond b (name ∷ []) []) is
 kept-told told name false is = refl
 
-unmap-tells : (it : MapCall) (first count : ℕ) (w : Bool) → is_watched it.one.space.object first count ≡ w → told_in it.one.kernel 6 it.one.object.space first (first + count) ≡ cond w (it.one.name ∷ []) []
+pub unmap-tells : (it : MapCall) (first count : ℕ) (w : Bool) → is_watched it.one.space.object first count ≡ w → told_in it.one.kernel 6 it.one.object.space first (first + count) ≡ cond w (it.one.name ∷ []) []
 unmap-tells it first count w is = ap (filter (is_told it.one.kernel 6)) (watchers it.one first count w is) ∙ kept-told (is_told it.one.kernel 6) it.one.name w (tells-unmap it)
 
 pub remove-tells : (it : MapCall) (first count : ℕ) (w : Bool) → is_watched it.one.space.object first count ≡ w → told_in it.one.kernel 3 it.one.object.space first (first + count) ≡ cond w (it.one.name ∷ []) []

@@ -8,8 +8,7 @@ use Rattle.uffd_log.specs.declared.call.Call.TheVariants as call
 use Rattle.uffd_log.specs.declared.call.Descriptor.{Descriptor}
 use Rattle.uffd_log.specs.declared.call.Message.TheVariants.{Fault}
 use Rattle.uffd_log.specs.declared.line.Answer.TheVariants.{Features, Opened, Value}
-use Rattle.kernel_rules.specs.Runs.{Event}
-use Rattle.kernel_laws.specs.Logs.{Arrival, Ended, HaveNoMapCalls, answered, arrived, whole_log}
+use Rattle.kernel_laws.specs.Logs.{Arrival, Ended, HaveNoMapCalls, Written, answered, arrived, whole_log}
 
 -- the descriptor of its object
 abbrev pub its_descriptor : Descriptor
@@ -25,7 +24,7 @@ its_calls =
     ∷ answered (call.Copy its_descriptor 0x10000 0x20000 PAGE_SIZE 0) (Value PAGE_SIZE) ∷ []
 
 -- a destination has this log: steps lead from its Package on, of which none is refused or begins a map call
-pub record IsOfDestination (log : List Event) : Type 0 where
+pub record IsOfDestination (log : Written) : Type 0 where
   pub it : Arrival
   pub steps : List Step
   pub no_map_calls : HaveNoMapCalls steps

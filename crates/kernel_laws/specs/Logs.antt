@@ -1,36 +1,44 @@
--- The steps of a world at one of its nodes, as a log: the calls that its handler makes, and how they end. Other steps have no line.
-use Rattle.std.specs.Prelude.{◌≡◌, ℕ, not, Bool, ◌+◌, false, true, Option, Some, None, Result, Ok, List, [], ◌∷◌, ◌++◌, ◌*◌, length, map}
+-- The steps of a world at one of its nodes, as a log: the calls that its handler makes, the map calls of its guest, and how they end. Other
+-- steps have no line.
+use Rattle.std.specs.Prelude.{◌≡◌, ℕ, not, Bool, ◌+◌, ◌-◌, ◌==◌, false, true, if◌then◌else◌, Option, Some, None, Result, Ok, List, [], ◌∷◌, ◌++◌, ◌*◌, length, map, max}
 use Rattle.std.specs.List.{list_any}
 use Rattle.std.specs.FinMap.{FinMap}
 use Rattle.std.specs.Ordering.{nat_cmp}
 use Rattle.mig_base.specs.declared.Prot.{Prot}
 use Rattle.mig_base.specs.declared.Run.{Run}
-use Rattle.mig_base.specs.declared.TheConstants.{PAGE_SIZE}
+use Rattle.mig_base.specs.declared.TheConstants.{LOW, PAGE_SIZE}
+use Rattle.mig_base.specs.declared.command.Command.{Command}
+use Rattle.mig_base.specs.declared.command.Place.{Place}
+use Rattle.mig_base.specs.declared.command.Reply.{Reply}
 use Rattle.mig_base.specs.declared.effect.Effect.{Effect}
 use Rattle.mig_base.specs.declared.message.Message.{Message}
 use Rattle.mig_base.specs.declared.refusal.Refusal.{Refusal}
 use Rattle.mig_base.specs.declared.schedule.Step.{Step}
 use Rattle.mig_base.specs.Commands.{is_access}
+use Rattle.mig_base.specs.Flat.{reply_of}
 use Rattle.mig_base.specs.Userfault.{Noted, Object, next_message}
 use Rattle.mig_model.specs.Bounds.{IsMapping}
 use Rattle.mig_model.specs.Ioctls.{all_features, event_features}
 use Rattle.mig_model.specs.Migration.{World, after_steps, next, outcome}
 use Rattle.mig_model.specs.Handlers.{AreRunsOf}
+use Rattle.mig_model.specs.Host.{memory}
 use Rattle.mig_model.specs.Promises.{IsReached}
 use Rattle.mig_model.specs.Source.{is_released, is_source_idle}
-use Rattle.mig_model.specs.Space.{Space}
+use Rattle.mig_model.specs.Space.{Space, queued_by}
 use Rattle.uffd_log.specs.declared.call.Call.{Call}
 use Rattle.uffd_log.specs.declared.call.Call.TheVariants as call
 use Rattle.uffd_log.specs.declared.call.Descriptor.{Descriptor}
 use Rattle.uffd_log.specs.declared.line.Answer.{Answer}
 use Rattle.uffd_log.specs.declared.line.Answer.TheVariants.{Done, Features, Opened, Value}
+use Rattle.kernel_rules.specs.declared.run.Made.{Made}
 use Rattle.kernel_rules.specs.declared.difference.Difference.{Difference}
-use Rattle.kernel_rules.specs.declared.difference.Difference.TheVariants.{FaultOnItsWay, LeftByASignal}
+use Rattle.kernel_rules.specs.declared.difference.Difference.TheVariants.{FaultOnItsWay}
 use Rattle.kernel_rules.specs.Ioctls.{has_calls, is_offer}
 use Rattle.kernel_rules.specs.Runs as runs
 use Rattle.kernel_rules.specs.Runs.{Event, IsRun, Outcome, Leads, begins, ends, lines_of}
 use Rattle.kernel_rules.specs.State.{Kernel, fresh_kernel, may_be_outside}
 use Rattle.kernel_laws.specs.Agreement.{Counterparts, message_of, telling}
+use Rattle.kernel_laws.specs.Maps.{failed}
 
 -- a call, with how it ends
 pub record Ended : Type 0 where
@@ -61,16 +69,37 @@ abbrev pub lines_of_calls : ℕ → List Ended → List Event
 lines_of_calls key [] = []
 lines_of_calls key (ended ∷ more) = lines_of_call key ended ++ lines_of_calls (key + 1) more
 
--- a node in a log: the space that its object watches, the calls that its handler makes in a step, and whether its processors are ever stopped
+-- a map call under way, which has taken effect: how it ends, and how many of its messages are not read
+pub record Open : Type 0 where
+  pub made : Made
+  pub out : Outcome
+  pub left : ℕ
+
+-- a part of a log: its lines, the number of the call after them, and the map calls that are under way then, the oldest first
+pub record Written : Type 0 where
+  pub lines : List Event
+  pub key : ℕ
+  pub begun : List Open
+
+-- one part after another
+abbrev pub then_written : Written → Written → Written
+then_written first rest = record rest { lines = first.lines ++ rest.lines }
+
+-- calls of the handler, numbered from a number on
+abbrev pub calls_written : (key : ℕ) → List Open → List Ended → Written
+calls_written key begun calls = record { lines = lines_of_calls key calls; key = key + length calls; begun = begun }
+
+-- a node in a log: the space that its object watches, and what a step writes, by the number of its first call and the map calls under way
 pub record Node : Type 0 where
   pub space : World → Space
-  pub calls : World → Step → List Ended
-  pub stops : Bool
+  pub writes : (key : ℕ) → List Open → World → Step → Written
 
--- the log of steps, whose calls are numbered from a number on
-abbrev pub log_of : Node → (key : ℕ) → World → List Step → List Event
-log_of node key world [] = []
-log_of node key world (step ∷ steps) = lines_of_calls key (node.calls world step) ++ log_of node (key + length (node.calls world step)) (next world step) steps
+-- the log of steps
+abbrev pub log_of : Node → (key : ℕ) → List Open → World → List Step → Written
+log_of node key begun world [] = record { lines = []; key = key; begun = begun }
+log_of node key begun world (step ∷ steps) =
+    let first = node.writes key begun world step in
+    then_written first (log_of node first.key first.begun (next world step) steps)
 
 -- the space of a node after steps
 abbrev pub space_after : Node → World → List Step → Space
@@ -90,20 +119,97 @@ abbrev pub install_call : Descriptor → (from : ℕ) → Effect → List Ended
 install_call on from (Effect.Installed addr origin) = answered (call.Copy on addr from PAGE_SIZE 0) (Value PAGE_SIZE) ∷ []
 install_call on from effect = []
 
--- the call of a step with this outcome
+-- the handler's call in a step with this outcome, but for DestRead
 abbrev pub destination_calls : Descriptor → (from : ℕ) → World → Step → Result Effect Refusal → List Ended
-destination_calls on from world Step.DestRead (Ok effect) = read_call on (next_message world.destination.guest.space.object)
 destination_calls on from world Step.DestAct (Ok effect) = act_call on effect
 destination_calls on from world Step.Install (Ok effect) = install_call on from effect
 destination_calls on from world step result = []
 
--- the destination, with its object's descriptor and its handler's buffer
-abbrev pub destination : Descriptor → (from : ℕ) → Node
-destination on from =
+-- the protection of mmap(2): PROT_READ is 1, PROT_WRITE 2
+abbrev pub bits_of : Prot → ℕ
+bits_of Prot.NoAccess = 0
+bits_of Prot.Read = 1
+bits_of Prot.ReadWrite = 3
+
+-- mmap(2) of private memory: MAP_PRIVATE is 2, MAP_FIXED 0x10, MAP_ANONYMOUS 0x20, MAP_FIXED_NOREPLACE 0x100000
+abbrev pub mmap_at : (len prot : ℕ) → Place → Call
+mmap_at len prot Place.Anywhere = call.Mmap 0 len prot 0x22
+mmap_at len prot (Place.Fixed addr) = call.Mmap addr len prot 0x32
+mmap_at len prot (Place.NoReplace addr) = call.Mmap addr len prot 0x100022
+
+-- the map call of a command, if it is one: mremap(2) with MREMAP_MAYMOVE, 1, and MREMAP_FIXED, 2; madvise(2) with MADV_DONTNEED, 4
+abbrev pub map_call : Command → Option Call
+map_call (Command.Mmap len prot place) = Some (mmap_at len (bits_of prot) place)
+map_call (Command.Munmap addr len) = Some (call.Munmap addr len)
+map_call (Command.Mremap addr old_len new_len false None) = Some (call.Mremap addr old_len new_len 0 0)
+map_call (Command.Mremap addr old_len new_len true None) = Some (call.Mremap addr old_len new_len 1 0)
+map_call (Command.Mremap addr old_len new_len false (Some target)) = Some (call.Mremap addr old_len new_len 2 target)
+map_call (Command.Mremap addr old_len new_len true (Some target)) = Some (call.Mremap addr old_len new_len 3 target)
+map_call (Command.DontNeed addr len) = Some (call.Madvise addr len 4)
+map_call command = None
+
+-- how a map call ends; an access has other replies too
+abbrev pub answer_of_reply : Reply → Answer
+answer_of_reply (Reply.At start) = Value start
+answer_of_reply (Reply.Refused errno) = failed errno
+answer_of_reply reply = Done
+
+-- a map call of the guest in an address space: it begins and takes effect, and ends at once if it has queued no message
+abbrev pub map_written : (home key : ℕ) → List Open → (left : ℕ) → Answer → Call → Written
+map_written home key begun left answer call =
+    let made : Made = record { key = key; space = home; call = call; last = false } in
+    let out : Outcome = record { answer = answer; messages = []; runs = [] } in
+    if left == 0 then record { lines = begins made ∷ ends key out ∷ []; key = key + 1; begun = begun }
+    else record { lines = begins made ∷ []; key = key + 1; begun = begun ++ record { made = made; out = out; left = left } ∷ [] }
+
+-- the same of a command
+abbrev pub issue_written : (home key : ℕ) → List Open → Space → Command → Option Call → Written
+issue_written home key begun space command None = calls_written key begun []
+issue_written home key begun space command (Some call) = map_written home key begun (queued_by space command) (answer_of_reply (reply_of (memory space.host) command)) call
+
+-- the end of the oldest map call, whose last message was read
+abbrev pub ends_of : List Open → List Event
+ends_of [] = []
+ends_of (one ∷ begun) = if one.left == 1 then ends one.made.key one.out ∷ [] else []
+
+-- the map calls once one more message of the oldest is read
+abbrev pub one_less : List Open → List Open
+one_less [] = []
+one_less (one ∷ begun) = if one.left == 1 then begun else record one { left = one.left - 1 } ∷ begun
+
+-- UFFDIO_WAKE of the part of a range that the model may have mapped
+abbrev pub wake_range : Descriptor → (start len : ℕ) → List Ended
+wake_range on start len = answered (call.Wake on (max start LOW) (len - (LOW - start))) Done ∷ []
+
+-- UFFDIO_WAKE of the pages that were moved away, cleared or unmapped
+abbrev pub wake_call : Descriptor → Message → List Ended
+wake_call on (Message.PageFault addr write wp tid) = []
+wake_call on (Message.Remap from to len) = wake_range on from len
+wake_call on (Message.Remove start end) = wake_range on start (end - start)
+wake_call on (Message.Unmap start end) = wake_range on start (end - start)
+
+-- once a message is read: an event is the next of the oldest map call, which returns after its last one
+abbrev pub event_written : Descriptor → (key : ℕ) → List Open → Message → Written
+event_written on key begun (Message.PageFault addr write wp tid) = calls_written key begun []
+event_written on key begun event = then_written (record { lines = ends_of begun; key = key; begun = one_less begun }) (calls_written key (one_less begun) (wake_call on event))
+
+-- read(2) of the next message, and what follows
+abbrev pub read_written : Descriptor → (key : ℕ) → List Open → Option Noted → Written
+read_written on key begun None = calls_written key begun []
+read_written on key begun (Some noted) = then_written (calls_written key begun (read_call on (Some noted))) (event_written on (key + 1) begun noted.message)
+
+-- what a step of the destination with this outcome writes
+abbrev pub destination_writes : Descriptor → (from home key : ℕ) → List Open → World → Step → Result Effect Refusal → Written
+destination_writes on from home key begun world (Step.Issue cpu command) (Ok effect) = issue_written home key begun world.destination.guest.space command (map_call command)
+destination_writes on from home key begun world Step.DestRead (Ok effect) = read_written on key begun (next_message world.destination.guest.space.object)
+destination_writes on from home key begun world step result = calls_written key begun (destination_calls on from world step result)
+
+-- the destination, with its object's descriptor, its handler's buffer, and the address space of its guest
+abbrev pub destination : Descriptor → (from home : ℕ) → Node
+destination on from home =
     record {
       space = λ (world : World). world.destination.guest.space;
-      calls = λ (world : World) (step : Step). destination_calls on from world step (outcome world step);
-      stops = false;
+      writes = λ (key : ℕ) (begun : List Open) (world : World) (step : Step). destination_writes on from home key begun world step (outcome world step);
     }
 
 -- a step of a reached world in which the destination takes the Package, its mapped pages as runs, what a kernel returns of the calls that the
@@ -134,9 +240,10 @@ first_calls it =
     answered (call.Open false 0x800) (Opened it.on) ∷ answered (call.Api it.on 0xaa event_features) (Features all_features it.offer)
     ∷ register_calls it.on 1 it.calls it.areas
 
--- the whole log of a destination: these calls, and those of the steps after them
-abbrev pub whole_log : Arrival → List Step → List Event
-whole_log it steps = lines_of_calls 0 (first_calls it) ++ log_of (destination it.on it.from) (length (first_calls it)) (arrived it) steps
+-- the whole log of a destination: these calls, and those of the steps after them. Its guest is process 0
+abbrev pub whole_log : Arrival → List Step → Written
+whole_log it steps =
+    then_written (calls_written 0 [] (first_calls it)) (log_of (destination it.on it.from 0) (length (first_calls it)) [] (arrived it) steps)
 
 -- The source
 
@@ -183,23 +290,28 @@ pub record Watch : Type 0 where
   pub runs : FinMap nat_cmp Prot → List Run
   pub are : (areas : FinMap nat_cmp Prot) → IsMapping areas → AreRunsOf areas (runs areas)
 
--- the calls of a step with this outcome: Start and Round register every mapped page in both modes
+-- the handler's calls in a step with this outcome, but for SourceRead: Start and Round register every mapped page in both modes
 abbrev pub source_calls : Watch → World → Step → Result Effect Refusal → List Ended
 source_calls by world Step.Start (Ok effect) = register_calls by.on 3 by.calls (by.runs world.source.guest.space.host.areas)
 source_calls by world Step.Round (Ok effect) = register_calls by.on 3 by.calls (by.runs world.source.guest.space.host.areas)
 source_calls by world Step.Send (Ok effect) = protect_call by.on effect
 source_calls by world (Step.SendRun count) (Ok effect) = protect_call by.on effect
-source_calls by world Step.SourceRead (Ok effect) = read_call by.on (next_message (unnamed world.source.guest.space).object)
 source_calls by world Step.SourceAct (Ok effect) = resolve_call by.on effect
 source_calls by world step result = []
 
--- the source, which stops its processors at Switch
-abbrev pub source : Watch → Node
-source by =
+-- what a step of the source with this outcome writes, its guest's map calls until the destination runs
+abbrev pub source_writes : Watch → (home key : ℕ) → List Open → World → Step → Result Effect Refusal → Written
+source_writes by home key begun world (Step.Issue cpu command) (Ok effect) =
+    if world.destination.has_run then calls_written key begun [] else issue_written home key begun (unnamed world.source.guest.space) command (map_call command)
+source_writes by home key begun world Step.SourceRead (Ok effect) = read_written by.on key begun (next_message (unnamed world.source.guest.space).object)
+source_writes by home key begun world step result = calls_written key begun (source_calls by world step result)
+
+-- the source, with the address space of its guest
+abbrev pub source : Watch → (home : ℕ) → Node
+source by home =
     record {
       space = λ (world : World). unnamed world.source.guest.space;
-      calls = λ (world : World) (step : Step). source_calls by world step (outcome world step);
-      stops = true;
+      writes = λ (key : ℕ) (begun : List Open) (world : World) (step : Step). source_writes by home key begun world step (outcome world step);
     }
 
 -- a reached world whose migration has not begun, and what a kernel returns of the calls that the object has
@@ -216,9 +328,9 @@ abbrev pub opening_calls : Beginning → List Ended
 opening_calls it =
     answered (call.Open false 0x800) (Opened it.by.on) ∷ answered (call.Api it.by.on 0xaa unnamed_features) (Features all_features it.offer) ∷ []
 
--- the whole log of a source: these calls, and those of the steps after them
-abbrev pub source_log : Beginning → List Step → List Event
-source_log it steps = lines_of_calls 0 (opening_calls it) ++ log_of (source it.by) 2 it.world steps
+-- the whole log of a source: these calls, and those of the steps after them. Its guest is process 0
+abbrev pub source_log : Beginning → List Step → Written
+source_log it steps = then_written (calls_written 0 [] (opening_calls it)) (log_of (source it.by 0) 2 [] it.world steps)
 
 -- Which steps
 
@@ -232,6 +344,22 @@ abbrev pub HaveNoMapCalls : List Step → Type 0
 HaveNoMapCalls [] = Unit {0}
 HaveNoMapCalls (step ∷ steps) = IsNoMapCall step × HaveNoMapCalls steps
 
+-- whether a command neither moves nor clears pages
+abbrev pub is_followed : Command → Bool
+is_followed (Command.Mremap addr old_len new_len may_move fixed) = false
+is_followed (Command.DontNeed addr len) = false
+is_followed command = true
+
+-- of the map calls, a step begins none but mmap(2) and munmap(2)
+abbrev pub IsFollowed : Step → Type 0
+IsFollowed (Step.Issue cpu command) = is_followed command ≡ true
+IsFollowed step = Unit {0}
+
+-- each of these steps
+abbrev pub AreFollowed : List Step → Type 0
+AreFollowed [] = Unit {0}
+AreFollowed (step ∷ steps) = IsFollowed step × AreFollowed steps
+
 -- the source has not released its memory, with which its object goes, when these steps are made
 abbrev pub IsUnreleased : World → List Step → Type 0
 IsUnreleased world steps = is_released (after_steps world steps).source.phase ≡ false
@@ -242,19 +370,22 @@ IsUnreleased world steps = is_released (after_steps world steps).source.phase �
 abbrev pub IsQuiet : Kernel → Type 0
 IsQuiet kernel = telling kernel ≡ fresh_kernel
 
--- whether a run may differ so from the model: a thread need not wait any more when it queues its fault; or it is stopped by a signal
-abbrev pub is_named : (stops : Bool) → Difference → Bool
-is_named stops FaultOnItsWay = true
-is_named stops LeftByASignal = stops
-is_named stops difference = false
+-- whether a difference is a page fault whose thread need not wait any more when it queues it
+abbrev pub is_late : Difference → Bool
+is_late FaultOnItsWay = true
+is_late difference = false
 
--- a run that leads to this kernel has no other difference
-abbrev pub AreNamed : (stops : Bool) → Kernel → Type 0
-AreNamed stops kernel = list_any (λ difference. not (is_named stops difference)) kernel.differs ≡ false
+-- a run that leads to this kernel has no other difference from the model
+abbrev pub AreLate : Kernel → Type 0
+AreLate kernel = list_any (λ difference. not (is_late difference)) kernel.differs ≡ false
+
+-- a kernel, and these map calls under way
+abbrev pub under_way : Kernel → List Open → runs.World
+under_way kernel begun = record { kernel = kernel; begun = map (λ (one : Open). record { made = one.made; out = Some one.out }) begun }
 
 -- a kernel, and no call under way
 abbrev pub at_rest : Kernel → runs.World
-at_rest kernel = record { kernel = kernel; begun = [] }
+at_rest kernel = under_way kernel []
 
 -- a reached world whose destination runs, a kernel at rest whose object agrees with it, the object's descriptor, and the address of the
 -- handler's buffer
@@ -280,26 +411,26 @@ pub record Watching : Type 0 where
   pub quiet : IsQuiet one.kernel
   pub own : by.on.object ≡ one.name
 
--- a run of these lines leads from a kernel whose object agrees with the model's to one whose object agrees with this space, and adds no
--- other difference
-pub record IsLogged (stops : Bool) (one : Counterparts) (lines : List Event) (space : Space) : Type 0 where
+-- a run of this part of a log leads from a kernel whose object agrees with the model's to one whose object agrees with this space, and adds
+-- no other difference
+pub record IsLogged (one : Counterparts) (log : Written) (space : Space) : Type 0 where
   pub steps : List runs.Step
   pub last : Counterparts
-  pub whole : lines_of steps ≡ lines
-  pub leads : Leads (at_rest one.kernel) steps (at_rest last.kernel)
+  pub whole : lines_of steps ≡ log.lines
+  pub leads : Leads (at_rest one.kernel) steps (under_way last.kernel log.begun)
   pub leaves : last.space ≡ space
   pub name : last.name ≡ one.name
-  pub quiet : IsQuiet last.kernel
-  pub differs : AreNamed stops one.kernel → AreNamed stops last.kernel
+  pub quiet : log.begun ≡ [] → IsQuiet last.kernel
+  pub differs : AreLate one.kernel → AreLate last.kernel
 
--- the log of a node's steps has such a run, from a kernel whose object agrees with the node's
+-- the log of a node's steps has such a run, from a kernel at rest whose object agrees with the node's
 abbrev pub AreLogged : Node → Counterparts → (key : ℕ) → World → List Step → Type 0
-AreLogged node one key world steps = IsLogged node.stops one (log_of node key world steps) (space_after node world steps)
+AreLogged node one key world steps = IsLogged one (log_of node key [] world steps) (space_after node world steps)
 
 -- a run of this log, from no object on, ends with one that agrees with this space, and has no other difference
-pub record HasRun (stops : Bool) (log : List Event) (space : Space) : Type 0 where
+pub record HasRun (log : Written) (space : Space) : Type 0 where
   pub steps : List runs.Step
   pub last : Counterparts
-  pub run : IsRun log steps (at_rest last.kernel)
-  pub differs : AreNamed stops last.kernel
+  pub run : IsRun log.lines steps (under_way last.kernel log.begun)
+  pub differs : AreLate last.kernel
   pub leaves : last.space ≡ space

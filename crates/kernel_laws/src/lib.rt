@@ -27,7 +27,7 @@ ghost use Rattle.kernel_rules.specs.State.{may_be_outside};
 ghost use Rattle.kernel_laws.specs.Agreement.{Agree, AreMapped, AreUnmapsAndRemaps, Counterparts, Takes, answer_of_api, answer_of_put, answer_of_register, answer_of_wake, is_inside};
 ghost use Rattle.kernel_laws.specs.Example.{IsOfDestination, its_calls};
 ghost use Rattle.kernel_laws.specs.Handlers.{DestinationStep, SourceStep, copies_page, destination_after, protects_pages, source_after, wakes_page, zeroes_page};
-ghost use Rattle.kernel_laws.specs.Logs.{AreLogged, Arrival, Beginning, HasRun, HaveNoMapCalls, IsUnreleased, Running, Watching, arrived, destination, lines_of_calls, source, source_log, space_after, whole_log};
+ghost use Rattle.kernel_laws.specs.Logs.{AreFollowed, AreLogged, Arrival, Beginning, HasRun, IsUnreleased, Running, Watching, arrived, calls_written, destination, source, source_log, space_after, whole_log};
 ghost use Rattle.kernel_laws.specs.Maps.{Follow, IsPlaced, IsUnseen, MapCall, Mapping, MayClear, command_of, discards, failed, flat, maps, reply_of, unmaps};
 ghost use Rattle.kernel_laws.specs.Reading.{EventNext, FaultNext, NoneNext, Trying, fails_to_read, makes, reads_event, reads_fault};
 
@@ -162,36 +162,38 @@ pub fn a_kernel_follows_the_source()
         Takes (wakes_page at.one addr) (source_after at.world Step.SourceAct) at.one.name }
 {}
 
-/// The steps of a world whose destination runs, as a log of its handler's calls: the rules of a kernel have a run of it, from each kernel at
-/// rest whose object agrees, to one that agrees with the destination after the steps. A thread sees its page when its processor sleeps with a
-/// message, and queues its fault when that is read. That its page may be there by then is the run's only difference from the model. No step
-/// begins a map call, and the buffer of UFFDIO_COPY is where any process may have memory. So the whole log, which begins where the destination
-/// has taken the Package, opens its object and registers the mapped pages, is one that a kernel may have written.
+/// The steps of a world whose destination runs, as a log of its handler's calls and of its guest's map calls: the rules of a kernel have a run
+/// of it, from each kernel at rest whose object agrees, to one that agrees with the destination after the steps. A thread sees its page when its
+/// processor sleeps with a message, and queues its fault when that is read. That its page may be there by then, or gone, is the run's only
+/// difference from the model. A map call returns once its message is read: munmap(2) and mmap(2) have one at most. No step begins another map
+/// call, and the buffer of UFFDIO_COPY is where any process may have memory. So the whole log, which begins where the destination has taken the
+/// Package, opens its object and registers the mapped pages, is one that a kernel may have written.
 pub fn a_destination_is_logged()
-    ensures steps { (at : Running) (key : ℕ) (steps : List Step) → HaveNoMapCalls steps →
-        AreLogged (destination at.on at.from) at.one key at.world steps }
-    ensures whole { (it : Arrival) (steps : List Step) → HaveNoMapCalls steps →
-        HasRun false (whole_log it steps)
-        (space_after (destination it.on it.from) (arrived it) steps) }
+    ensures steps { (at : Running) (key : ℕ) (steps : List Step) → AreFollowed steps →
+        AreLogged (destination at.on at.from at.one.object.space) at.one key at.world steps }
+    ensures whole { (it : Arrival) (steps : List Step) → AreFollowed steps →
+        HasRun (whole_log it steps)
+        (space_after (destination it.on it.from 0) (arrived it) steps) }
 {}
 
 /// There is such a log: the destination opens its object, registers the guest's one page, reads a page fault and copies the page. Its processor
 /// sleeps, the page is requested, and the install wakes it.
 pub fn a_destination_fetches_a_page()
-    ensures log { IsOfDestination (lines_of_calls 0 its_calls) }
-    ensures run { (space : Space) × HasRun false (lines_of_calls 0 its_calls) space }
+    ensures log { IsOfDestination (calls_written 0 [] its_calls) }
+    ensures run { (space : Space) × HasRun (calls_written 0 [] its_calls) space }
 {}
 
-/// So is a source, until its memory is released. Start and Round register every mapped page in both modes, and a page is protected before it
-/// is sent. Its log has no thread numbers: the model's unread fault stays when its processor is woken, and that one may sleep at another page
-/// by then, where a thread of a kernel has one fault at a time. A fault may be read once its page is there, or is no longer protected; and
-/// Switch stops each processor, so that a thread which is on its way leaves its fault. These are the run's only differences from the model.
+/// So is a source, until its memory is released, with its guest's map calls until the destination runs. Start and Round register every mapped
+/// page in both modes, and a page is protected before it is sent. Its log has no thread numbers: the model's unread fault stays when its
+/// processor is woken, and that one may sleep at another page by then, where a thread of a kernel has one fault at a time. A fault may be read
+/// once its page is there or gone, or is no longer protected: this is the run's only difference from the model.
 pub fn a_source_is_logged()
-    ensures steps { (at : Watching) (key : ℕ) (steps : List Step) → HaveNoMapCalls steps →
-        IsUnreleased at.world steps → AreLogged (source at.by) at.one key at.world steps }
-    ensures whole { (it : Beginning) (steps : List Step) → HaveNoMapCalls steps →
-        IsUnreleased it.world steps → HasRun true (source_log it steps)
-        (space_after (source it.by) it.world steps) }
+    ensures steps { (at : Watching) (key : ℕ) (steps : List Step) → AreFollowed steps →
+        IsUnreleased at.world steps →
+        AreLogged (source at.by at.one.object.space) at.one key at.world steps }
+    ensures whole { (it : Beginning) (steps : List Step) → AreFollowed steps →
+        IsUnreleased it.world steps → HasRun (source_log it steps)
+        (space_after (source it.by 0) it.world steps) }
 {}
 
 /// There is such an object of a kernel for every sound space of the model whose unread messages are UNMAP and REMAP, if any. That a log leads

@@ -1,29 +1,19 @@
 //! Listing the lines of a script or of a transcript that are wrong.
 
 ghost use Rattle.std.specs.Prelude.{◌≡◌, true, OnOk, IfOk, IfNone, IfSome};
-ghost use Rattle.grammar.specs.Lines.{HasNoFeed};
 ghost use Rattle.engine.specs.Lines.{held_line};
 ghost use Rattle.lint.specs.Listing.{IsListed};
 ghost use Rattle.lint.specs.Parts.{IsOfLanguage, Takes};
 
 use crate::reason::{Reason, reason_of};
 use engine::RunFault;
-use engine::line_reader::{LineSink, text_of};
-use engine::script_reader::{MAX_LINE, split_line};
+use engine::line_reader::LineSink;
+use engine::script_reader::MAX_LINE;
 use grammar::parse::parse;
 use grammar::{Language, Token};
+use lines::{first_line, text_of};
 use mig_base::NoMemory;
 use std::alloc::Global;
-
-/// The bytes before the first line feed.
-fn first_line(bytes: &[u8]) -> &[u8]
-    ensures { HasNoFeed result.now }
-{
-    match split_line(bytes) {
-        Some((front, _)) => front,
-        None => bytes,
-    }
-}
 
 /// Why a line is wrong that begins with these bytes and has this number of them; none if it is a line of the language. The tokens are
 /// replaced.

@@ -6,7 +6,7 @@
 #![tactic(auto)]
 
 #[cfg(test)]
-mod lines;
+mod log_lines;
 #[cfg(test)]
 mod runs;
 #[cfg(test)]

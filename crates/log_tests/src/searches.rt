@@ -25,7 +25,7 @@ const REMOVES: &[u8] =
     b"1 70 70 started 69 ./monitor\n1 70 70 begin 1 open syscall 0x800\n1 70 70 end 1 ok 8:5\n1 70 70 begin 2 api 8:5 0xaa 0x8\n1 70 70 end 2 ok 0x1ffff 0x8000000000000003\n1 70 70 begin 3 register 8:5 0x10000 0x2000 0x1\n1 70 70 end 3 ok 0x17c\n1 70 70 begin 4 scan 8:5 0x10000 0x2000\n1 70 70 end 4 ok 0\n";
 
 /// What an object is registered for, the calls after it, what is said of the log, and what is written.
-static LOGS: [(&'static [u8], &'static [u8], Verdict, &'static [u8]); 31] = [
+static LOGS: [(&'static [u8], &'static [u8], Verdict, &'static [u8]); 32] = [
     // A madvise of the thread that the copy has woken: it ends before the copy does.
     (
         PLAIN,
@@ -69,12 +69,12 @@ static LOGS: [(&'static [u8], &'static [u8], Verdict, &'static [u8]); 31] = [
         Verdict::Nothing,
         b"5 calls: 4 with the only answer that the rules allow, 1 that an access explains which the log does not show, 0 for which no run was found, 0 not judged\nnot certified: nothing was judged: no message was read, and no page was put\n",
     ),
-    // It reads, and nothing waits.
+    // It reads, and nothing waits: the thread has left its fault by a signal.
     (
         PLAIN,
         b"1 70 70 begin 5 poll 8:5\n1 70 70 end 5 ok 0x1\n1 70 70 begin 6 read 8:5 32\n1 70 70 end 6 EAGAIN\n",
-        Verdict::Unexplained,
-        b"log:16: unexplained: object 8: no run was found that gives this answer: poll, thread 70 of process 70, until 1 at line 17: no message waits [unexplained-answer]\n6 calls: 5 with the only answer that the rules allow, 0 that an access explains which the log does not show, 1 for which no run was found, 0 not judged\nnot certified: no run was found\n",
+        Verdict::Nothing,
+        b"6 calls: 4 with the only answer that the rules allow, 2 that an access explains which the log does not show, 0 for which no run was found, 0 not judged\nnot certified: nothing was judged: no message was read, and no page was put\n",
     ),
     // A fault at the new place of a page, read before the messages of the mremap, which has not returned.
     (
@@ -167,12 +167,19 @@ static LOGS: [(&'static [u8], &'static [u8], Verdict, &'static [u8]); 31] = [
         Verdict::Certified,
         b"8 calls: 7 with the only answer that the rules allow, 1 that an access explains which the log does not show, 0 for which no run was found, 0 not judged\ncertified: the kernel's answers, which a kernel of the rules may have given; pages known to be missing 0, put twice 0, of which nothing is known 0\npage faults that waited until a call woke their thread: 1, the longest 0.0 us, read at line 17, woken at line 24\n",
     ),
-    // The poll begins when the message is read.
+    // The poll begins when the message is read: it has found that of a thread which a signal took away.
     (
         PLAIN,
         b"1 70 70 begin 6 read 8:5 32\n1 70 70 message 6 fault 0x10000 0 0\n1 70 70 end 6 ok 1\n1 70 71 begin 5 poll 8:5\n1 70 71 end 5 ok 0x1\n1 70 71 begin 7 read 8:5 32\n1 70 71 end 7 EAGAIN\n1 70 70 begin 8 copy 8:5 0x10000 0x7000 0x2000 0x0\n1 70 70 end 8 ok 8192\n",
+        Verdict::Certified,
+        b"8 calls: 5 with the only answer that the rules allow, 3 that an access explains which the log does not show, 0 for which no run was found, 0 not judged\ncertified: the kernel's answers, which a kernel of the rules may have given; pages known to be missing 0, put twice 0, of which nothing is known 0\npage faults that waited until a call woke their thread: 1, the longest 0.0 us, read at line 16, woken at line 24\n",
+    ),
+    // No thread could have waited: both pages are present.
+    (
+        PLAIN,
+        b"1 70 70 begin 5 copy 8:5 0x10000 0x7000 0x2000 0x0\n1 70 70 end 5 ok 8192\n1 70 71 begin 6 poll 8:5\n1 70 71 end 6 ok 0x1\n1 70 71 begin 7 read 8:5 32\n1 70 71 end 7 EAGAIN\n",
         Verdict::Unexplained,
-        b"log:19: unexplained: object 8: no run was found that gives this answer: poll, thread 71 of process 70, until 1 at line 20: no message waits [unexplained-answer]\n8 calls: 6 with the only answer that the rules allow, 1 that an access explains which the log does not show, 1 for which no run was found, 0 not judged\nnot certified: no run was found\npage faults that waited until a call woke their thread: 1, the longest 0.0 us, read at line 16, woken at line 24\n",
+        b"log:18: unexplained: object 8: no run was found that gives this answer: poll, thread 71 of process 70, until 1 at line 19: no message waits [unexplained-answer]\n7 calls: 6 with the only answer that the rules allow, 0 that an access explains which the log does not show, 1 for which no run was found, 0 not judged\nnot certified: no run was found\n",
     ),
     // A page is put again before the message of its madvise is read, which no kernel allows.
     (

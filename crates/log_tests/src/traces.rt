@@ -41,8 +41,8 @@ static TRACES: [(&'static [u8], Verdict, &'static [u8]); 10] = [
     // A page is put twice.
     (
         b"8 100.000600 ioctl(5<anon_inode:[userfaultfd]>, UFFDIO_COPY, {dst=0x10000, src=0x50000, len=0x1000, mode=0, copy=0x1000}) = 0 <0.000020>\n8 100.000800 ioctl(5<anon_inode:[userfaultfd]>, UFFDIO_COPY, {dst=0x10000, src=0x50000, len=0x1000, mode=0, copy=-17}) = -1 EEXIST (File exists) <0.000020>\n",
-        Verdict::Found,
-        b"a line 5.txt:7: fault: object 1: the page was put before by this log, and no wake follows: copy at 0x10000, thread 8 of process 7, since 100000820000 at line 7 [put-twice]\n5 calls: 4 with the only answer that the rules allow, 1 that an access explains which the log does not show, 0 for which no run was found, 0 not judged\ncertified: the kernel's answers, which a kernel of the rules may have given; pages known to be missing 0, put twice 1, of which nothing is known 1\n",
+        Verdict::Certified,
+        b"a line 5.txt:7: note: object 1: the page was put before by this log: copy at 0x10000, thread 8 of process 7, until 100000820000 at line 7 [put-again]\n5 calls: 4 with the only answer that the rules allow, 1 that an access explains which the log does not show, 0 for which no run was found, 0 not judged\ncertified: the kernel's answers, which a kernel of the rules may have given; pages known to be missing 0, put twice 1, of which nothing is known 1\n",
     ),
     // A page outside is said to be put.
     (

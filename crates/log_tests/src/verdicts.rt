@@ -57,8 +57,8 @@ static LOGS: [(&'static [u8], &'static [u8], Verdict, &'static [u8]); 14] = [
     (
         OPENED,
         b"9 7 8 begin 5 copy 8:5 0x10000 0x50000 0x1000 0\n10 7 8 end 5 ok 4096\n11 7 8 begin 6 copy 8:5 0x10000 0x50000 0x1000 0\n12 7 8 end 6 EEXIST -17\n",
-        Verdict::Found,
-        b"log:18: fault: object 8: the page was put before by this log, and no wake follows: copy at 0x10000, thread 8 of process 7, since 12 at line 19 [put-twice]\nlog:19: note: object 8: registered pages are still missing: end of the log at 0x11000, process 7 [page-owed]\n6 calls: 6 with the only answer that the rules allow, 0 that an access explains which the log does not show, 0 for which no run was found, 0 not judged\ncertified: the kernel's answers, which a kernel of the rules may have given; pages known to be missing 1, put twice 1, of which nothing is known 0\n",
+        Verdict::Certified,
+        b"log:18: note: object 8: the page was put before by this log: copy at 0x10000, thread 8 of process 7, until 12 at line 19 [put-again]\nlog:19: note: object 8: registered pages are still missing: end of the log at 0x11000, process 7 [page-owed]\n6 calls: 6 with the only answer that the rules allow, 0 that an access explains which the log does not show, 0 for which no run was found, 0 not judged\ncertified: the kernel's answers, which a kernel of the rules may have given; pages known to be missing 1, put twice 1, of which nothing is known 0\n",
     ),
     // A page that is missing is said to be there.
     (

@@ -18,3 +18,4 @@ pub mod PageSetLemmas
 pub mod PageSetViews
 pub mod RunLemmas
 pub mod ZeroLemmas
+pub mod EqualLemmas

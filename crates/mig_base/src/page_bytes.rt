@@ -1,6 +1,6 @@
 //! The bytes of one page, in memory of their own.
 
-ghost use Rattle.std.specs.Prelude.{◌≡◌, ◌+◌, ◌<◌, ◌≤◌, length, IfOk};
+ghost use Rattle.std.specs.Prelude.{◌≡◌, ◌+◌, ◌<◌, ◌≤◌, ◌↔◌, true, length, IfOk};
 ghost use Rattle.std.specs.List.{All};
 ghost use Rattle.mig_base.specs.Bytes.{overwrite, zero_page};
 ghost use Rattle.mig_base.specs.declared.TheConstants.{PAGE_SIZE};
@@ -71,6 +71,13 @@ impl PageBytes {
         ensures { self.new ≡ overwrite self.old offset bytes.now }
     {
         write_over(&mut self.bytes, offset, bytes);
+    }
+
+    /// Whether the two pages have the same bytes.
+    pub fn is_same(&self, other: &Self) -> bool
+        ensures { (result ≡ true) ↔ (self.now ≡ other.now) }
+    {
+        self.bytes == other.bytes
     }
 
     /// A law of every page: it has 4096 bytes, each below 256. The call does nothing.

@@ -5,3 +5,4 @@ pub mod WaitingAccesses
 pub mod Calls
 pub mod CallReplies
 pub mod RightCommands
+pub mod WorldLaws

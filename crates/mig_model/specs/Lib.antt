@@ -26,3 +26,4 @@ pub mod Promises
 pub mod Replies
 pub mod Unbroken
 pub mod Runs
+pub mod Laws

@@ -30,12 +30,27 @@ fn copy_of(world: &World) -> Result<World, NoMemory> {
     }
 }
 
-/// Plays what both show at first, how the copy continues, how the world continues, and what the copy shows then.
+/// Whether two worlds are the same, asked both ways.
+fn are_same(rt: &impl Abort, world: &World, other: &World) -> bool {
+    let is_same = world.is_same(other);
+    assert!(rt; other.is_same(world) == is_same, "the two ways differ");
+    is_same
+}
+
+/// Plays what both show at first, how the copy continues, how the world continues, and what the copy shows then. Both are the same world
+/// until one of them makes a step.
 fn play_both(rt: &impl Abort, world: &mut World, copy: &mut World, ways: Ways) {
+    assert!(rt; are_same(rt, world, copy), "a copy is another world");
     play(rt, copy, "the copy at first", ways.0);
+    assert!(rt; are_same(rt, world, copy), "questions make another world");
     play(rt, copy, "the copy goes on", ways.1);
+    assert!(rt; !are_same(rt, world, copy), "steps leave the same world");
     play(rt, world, "the world at first", ways.0);
     play(rt, world, "the world goes on", ways.2);
+    assert!(rt;
+        !are_same(rt, world, copy),
+        "two ways lead to the same world"
+    );
     play(rt, copy, "the copy then", ways.3);
 }
 

@@ -1,11 +1,11 @@
 -- Tables of numbers: one number changed, and leaves that are made.
-use Rattle.std.proofs.Common.{◌≡◌, ℕ, zero, suc, ◌+◌, ◌-◌, ◌/◌, ◌%◌, ◌<◌, ◌≤◌, true, false, cond, eqb, refl, sym, ap, ◌∙◌, ⊎_elim, arith, List, ◌∷◌, [], ◌++◌, length, get_or, set, get_or-set_same, get_or-set_other, Option, Some, None, is_some, replicate}
+use Rattle.std.proofs.Common.{◌≡◌, ℕ, zero, suc, ◌+◌, ◌-◌, ◌*◌, ◌/◌, ◌%◌, ◌<◌, ◌≤◌, true, false, cond, eqb, refl, sym, ap, ◌∙◌, ⊎_elim, arith, List, ◌∷◌, [], ◌++◌, length, get_or, set, get_or-set_same, get_or-set_other, Option, Some, None, is_some, replicate}
 use mathlib.Core.Logic.{dite}
 use native.Mathlib.Decide.{ℕ_discrete}
 use Rattle.std.proofs.lemmas.Bool.{eq-eqb, ne_eqb, cases_lt}
 use Rattle.std.proofs.lemmas.List.{get_or_append_left, get_or-append_right}
 use Rattle.owed_pages.specs.Tables.{Place, number_in, page_number, is_place, has_place}
-use Rattle.mig_base.proofs.PlaceLemmas.{said_at, said_here, said_past, said_same, said-push, said-put}
+use Rattle.mig_base.proofs.PlaceLemmas.{same_leaf, said_at, said_here, said_past, said_same, said-push, said-put}
 
 abbrev pub Places : Type 0
 Places = List Place
@@ -102,3 +102,27 @@ copied_all old copies size is q =
     (λ (below : q / 1024 < length old). sym (at_place copies q (q / 1024) refl) ∙ is (q / 1024) below (q % 1024) ∙ at_place old q (q / 1024) refl)
     (λ (past : length old ≤ q / 1024). past_places copies q (omega arith) ∙ sym (past_places old q past))
     (cases_lt (q / 1024) (length old))
+
+-- Two tables
+
+-- each page from `first` up to `end` has the same number, or none, in both tables
+abbrev pub AreSame : Places → Places → ℕ → ℕ → Type 0
+AreSame places others first end = (q : ℕ) → first ≤ q → q < end → page_number places q ≡ page_number others q
+
+pub same_more : (places others : Places) (page next : ℕ) → AreSame places others 0 page → AreSame places others page next → AreSame places others 0 next
+same_more places others page next same more q from below =
+    ⊎_elim (λ (before : q < page). same q from before) (λ (past : page ≤ q). more q past below) (cases_lt q page)
+
+-- pages of a leaf that both tables miss
+pub both_missing : (places others : Places) (page next : ℕ) → ((q : ℕ) → page ≤ q → q < next → q / 1024 ≡ page / 1024) → has_place places page ≡ false → has_place others page ≡ false → AreSame places others page next
+both_missing places others page next leaf none neither q from below =
+    none_without_place places q (same_leaf places page q (leaf q from below) none)
+    ∙ sym (none_without_place others q (same_leaf others page q (leaf q from below) neither))
+
+-- past the last leaf of both no page has a number
+pub same_all : (places others : Places) (end : ℕ) → length places * 1024 ≤ end → length others * 1024 ≤ end → AreSame places others 0 end → (q : ℕ) → page_number places q ≡ page_number others q
+same_all places others end all theirs same q =
+    ⊎_elim
+    (λ (below : q < end). same q (omega arith) below)
+    (λ (past : end ≤ q). past_places places q (omega arith) ∙ sym (past_places others q (omega arith)))
+    (cases_lt q end)

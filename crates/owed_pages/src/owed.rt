@@ -3,7 +3,7 @@
 //! `table` has a number, or none, for each page, in places of 1024; `links` has two such tables, one for each direction, with
 //! the same pairs.
 
-ghost use Rattle.std.specs.Prelude.{◌≡◌, ◌≢◌, ℕ, ◌+◌, ◌<◌, ◌≤◌, ◌⊎◌, ◌↔◌, ◌==◌, Some, None, OnOk, OnErr, IfOk, IfSome};
+ghost use Rattle.std.specs.Prelude.{◌≡◌, ◌≢◌, ℕ, ◌+◌, ◌<◌, ◌≤◌, ◌⊎◌, ◌↔◌, ◌==◌, true, Some, None, OnOk, OnErr, IfOk, IfSome};
 ghost use Rattle.std.specs.FinMap as map;
 ghost use Rattle.mig_base.specs.Pages.{remove_range, moved_range};
 ghost use Rattle.mig_base.specs.declared.TheConstants.{HIGH_PAGE};
@@ -73,6 +73,13 @@ impl Owed {
             alloc: self.alloc,
             links: self.links.copy(self.alloc)?,
         })
+    }
+
+    /// Whether the same pages are owed, each with the same origin.
+    pub fn is_same(&self, other: &Self) -> bool
+        ensures { (result ≡ true) ↔ (self.now ≡ other.now) }
+    {
+        self.links.is_same(&other.links)
     }
 
     /// The page where a page of the source belongs now, or `None` if it is not owed. Any page number is allowed.

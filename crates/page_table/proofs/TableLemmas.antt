@@ -1,10 +1,15 @@
 -- Tables of 1024 pages as one: one table changed, one page changed, a range cleared, a range moved.
-use Rattle.std.proofs.Common.{◌≡◌, ◌≢◌, ℕ, ◌+◌, ◌-◌, ◌*◌, ◌/◌, ◌%◌, ◌<◌, ◌≤◌, ◌&&◌, Bool, true, false, cond, eqb, ltb, refl, sym, ap, ◌∙◌, ◌⊎◌, ⊎_elim, inl, inr, arith, List, ◌∷◌, [], ◌++◌, length, min, get_or, set, Some, None}
+use Rattle.std.proofs.Common.{◌≡◌, ◌≢◌, ℕ, ◌+◌, ◌-◌, ◌*◌, ◌/◌, ◌%◌, ◌<◌, ◌≤◌, ◌&&◌, Bool, true, false, cond, eqb, ltb, refl, sym, ap, ◌∙◌, ◌⊎◌, ⊎_elim, inl, inr, arith, List, ◌∷◌, [], ◌++◌, length, min, get_or, set, Option, Some, None, option_copied, Decides, Bor}
+use mathlib.Core.Bool.{beq}
 use mathlib.Core.Logic.{dite}
 use native.Mathlib.Decide.{ℕ_discrete}
-use Rattle.std.proofs.lemmas.Bool.Decides.{nat_tests}
+use Rattle.std.proofs.lemmas.Bool.Decides.{nat_tests, Decides-like}
 use Rattle.std.proofs.lemmas.Bool.{false≢true, eq-eqb, ne_eqb, cases_lt}
 use Rattle.std.proofs.lemmas.List.{get_or_append_left, get_or-append_right}
+use Rattle.std.proofs.lemmas.Option.{none-some, same_Some}
+use Rattle.std.proofs.lemmas.Slice.Eq.{bytes_eq-Decides}
+use Rattle.std.specs.Option.{option_eq}
+use Rattle.std.specs.Cmp.Lexicographic.{pointwise}
 use Rattle.mig_base.specs.declared.TheConstants.{PAGE_SIZE}
 use Rattle.mig_base.specs.Ranges.{in_range}
 use Rattle.mig_base.proofs.RangeLemmas.{in_range-none, in_range-out}
@@ -146,9 +151,37 @@ copied_more old copies at place size is here k l i inside =
     ∙ here i inside ∙ ap (λ n. cell_in (get_or old n None) i) (sym e))
     (cases_lt k (length copies))
 
-pub copied_all : (old copies : Places) → length copies ≡ length old → IsCopied old copies (length old) → (q : ℕ) → cell_at copies q ≡ cell_at old q
-copied_all old copies size is q =
+pub copied_all : (old copies : Places) (bound : ℕ) → length old ≤ bound → length copies ≤ bound → IsCopied old copies bound → (q : ℕ) → cell_at copies q ≡ cell_at old q
+copied_all old copies bound size also is q =
     ⊎_elim
-    (λ (below : q / 1024 < length old). sym (at_place copies q (q / 1024) refl) ∙ is (q / 1024) below (q % 1024) (omega arith) ∙ at_place old q (q / 1024) refl)
-    (λ (past : length old ≤ q / 1024). past_places copies q (omega arith) ∙ sym (past_places old q past))
-    (cases_lt (q / 1024) (length old))
+    (λ (below : q / 1024 < bound). sym (at_place copies q (q / 1024) refl) ∙ is (q / 1024) below (q % 1024) (omega arith) ∙ at_place old q (q / 1024) refl)
+    (λ (past : bound ≤ q / 1024). past_places copies q (omega arith) ∙ sym (past_places old q (omega arith)))
+    (cases_lt (q / 1024) bound)
+
+-- the other way round, for one place
+pub same_in_place : (places others : Places) (at i : ℕ) → ((q : ℕ) → cell_at places q ≡ cell_at others q) → i < 1024 → cell_in (get_or places at None) i ≡ cell_in (get_or others at None) i
+same_in_place places others at i same inside =
+    let place : (1024 * at + i) / 1024 ≡ at = omega arith in
+    let number : (1024 * at + i) % 1024 ≡ i = omega arith in
+    ap (cell_in (get_or places at None)) (sym number) ∙ at_place places (1024 * at + i) at place ∙ same (1024 * at + i) ∙ sym (at_place others (1024 * at + i) at place) ∙ ap (cell_in (get_or others at None)) number
+
+-- What `==` says of what two places have of a page
+pub same_read : (one other : Option (Bor (List ℕ))) → Decides (option_eq (λ x y. pointwise eqb x.now y.now) one other) (option_copied one ≡ option_copied other)
+same_read None None = (λ _. refl, λ _. refl)
+same_read None (Some y) = (λ e. absurd (false≢true e), λ e. absurd (none-some y.now e))
+same_read (Some x) None = (λ e. absurd (false≢true e), λ e. absurd (none-some x.now (sym e)))
+same_read (Some x) (Some y) = Decides-like (pointwise eqb x.now y.now) (λ e. ap (λ (bytes : List ℕ). Some bytes) e) (same_Some x.now y.now) (bytes_eq-Decides x.now y.now)
+
+same_flags : (b c : Bool) → beq b c ≡ true → b ≡ c
+same_flags true true e = refl
+same_flags true false e = absurd (false≢true e)
+same_flags false true e = absurd (false≢true e)
+same_flags false false e = refl
+
+beq_itself : (b : Bool) → beq b b ≡ true
+beq_itself true = refl
+beq_itself false = refl
+
+-- a page of two places, once its bytes are known to be the same
+pub same_cell : (one other : Cell) → one.0 ≡ other.0 → (r : Bool) → r ≡ beq one.1 other.1 → Decides r (one ≡ other)
+same_cell one other bytes r is = (λ e k. (bytes k, same_flags one.1 other.1 (sym is ∙ e) k), λ e. is ∙ ap (λ (b : Bool). beq one.1 b) (ap (λ x. x.1) (sym e)) ∙ beq_itself one.1)

@@ -45,6 +45,16 @@ unfolding shown_pages
 same_cells_shown old new value few still view h =
     (λ k. record { bytes = map_below (λ q. (h q k).0) HIGH_PAGE; protected = set_below (λ q. (h q k).1) HIGH_PAGE }) ∙ view
 
+-- and equal pages are those of equal cells
+pub same_cells_seen : (places others : List Place) (value other : Pages) → length places ≤ 1024 → length others ≤ 1024 → shown_pages places ≡ value → shown_pages others ≡ other → value ≡ other → (q : ℕ) → cell_at places q ≡ cell_at others q
+same_cells_seen places others value other few also view shows e q = λ k. (bytes k, flag k)
+  where
+    bytes : (cell_at places q).0 ≡ (cell_at others q).0
+    bytes = bytes_seen places value q few view ∙ ap (λ v. map.get v.bytes q) e ∙ sym (bytes_seen others other q also shows)
+
+    flag : (cell_at places q).1 ≡ (cell_at others q).1
+    flag = flag_seen places value q few view ∙ ap (λ v. set.contains v.protected q) e ∙ sym (flag_seen others other q also shows)
+
 pub bytes_by : (places : List Place) (target : map.FinMap nat_cmp (List ℕ)) → length places ≤ 1024 → ((q : ℕ) → (cell_at places q).0 ≡ map.get target q) → (shown_pages places).bytes ≡ target
 bytes_by places target few h = same_pages (shown_pages places).bytes target (λ q. bytes_shown places q few ∙ h q)
 

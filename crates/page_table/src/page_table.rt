@@ -17,8 +17,8 @@ mod ranges;
 use crate::leaf::Place;
 use crate::page::Page;
 use crate::table::{
-    bytes_at, bytes_unless_zeros_at, clear_range, copy_places, is_present_at, is_protected_at,
-    make_place, make_places, move_cells, present_of, protect_at, put_at, write_at,
+    are_same, bytes_at, bytes_unless_zeros_at, clear_range, copy_places, is_present_at,
+    is_protected_at, make_place, make_places, move_cells, present_of, protect_at, put_at, write_at,
 };
 use mig_base::page_set::PageSet;
 use mig_base::{NoMemory, PAGE_BYTES, PageBytes, PageNo};
@@ -116,6 +116,13 @@ impl PageTable {
             alloc: self.alloc,
             places: copy_places(self.alloc, &self.places)?,
         })
+    }
+
+    /// Whether the two tables have the same present pages, with the same bytes and the same protection.
+    pub fn is_same(&self, other: &Self) -> bool
+        ensures { (result ≡ true) ↔ (self.now ≡ other.now) }
+    {
+        are_same(&self.places, &other.places)
     }
 
     /// Makes a missing page present, not protected, with these bytes, which are not copied.

@@ -1,7 +1,7 @@
 //! Leaves, and one place for a leaf: reading, putting, writing, taking out and clearing pages there. A page is named by its number in
 //! the leaf.
 
-ghost use Rattle.std.specs.Prelude.{◌≡◌, ℕ, ◌+◌, ◌*◌, ◌%◌, ◌<◌, ◌≤◌, ◌&&◌, ◌||◌, Bool, true, false, nat_eq, if◌then◌else◌, None, IfOk, OnOk, OnErr, is_some, length};
+ghost use Rattle.std.specs.Prelude.{◌≡◌, ℕ, ◌+◌, ◌*◌, ◌%◌, ◌<◌, ◌≤◌, ◌&&◌, ◌||◌, ◌↔◌, Bool, true, false, nat_eq, if◌then◌else◌, None, IfOk, OnOk, OnErr, is_some, length};
 ghost use Rattle.std.specs.Option.{option_copied};
 ghost use Rattle.std.specs.FinSet.{contains};
 ghost use Rattle.mig_base.specs.Ranges.{in_range};
@@ -191,6 +191,31 @@ pub fn place_copy(alloc: Global, place: &Place) -> Result<Place, NoMemory>
         Some(leaf) => Ok(Some(Box::new(alloc, leaf.copy(alloc)?)?)),
         None => Ok(None),
     }
+}
+
+/// Whether two places have the same pages. It compares bytes: zeros without memory of their own are as good as bytes that are zero.
+pub fn is_same_place(place: &Place, other: &Place) -> bool
+    ensures { (result ≡ true) ↔
+        ((i : ℕ) → i < CHUNK → cell_in place.now i ≡ cell_in other.now i) }
+{
+    if place.is_none() && other.is_none() {
+        return true;
+    }
+    for i in 0..CHUNK {
+        if !is_same_page(place, other, i) {
+            return false;
+        }
+    }
+    true
+}
+
+/// Whether a page has the same bytes and the same protection in two places.
+fn is_same_page(place: &Place, other: &Place, i: u32) -> bool
+    requires { i < CHUNK }
+    ensures { (result ≡ true) ↔ (cell_in place.now i ≡ cell_in other.now i) }
+{
+    let has_same_bytes = place_get(place, i) == place_get(other, i);
+    has_same_bytes && place_is_protected(place, i) == place_is_protected(other, i)
 }
 
 /// Puts the present pages of place number `at` into a set. `NoMemory` may leave some of them in the set.

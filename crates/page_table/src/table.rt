@@ -1,19 +1,19 @@
 //! The places of all pages. The leaf of a place is made when it is first needed.
 
-ghost use Rattle.std.specs.Prelude.{◌≡◌, ℕ, ◌+◌, ◌-◌, ◌/◌, ◌%◌, ◌<◌, ◌≤◌, ◌⊎◌, Bool, true, false, nat_eq, if◌then◌else◌, None, OnOk, OnErr, IfOk, is_some, length, slice_index_or};
+ghost use Rattle.std.specs.Prelude.{◌≡◌, ℕ, ◌+◌, ◌-◌, ◌/◌, ◌%◌, ◌<◌, ◌≤◌, ◌⊎◌, ◌↔◌, Bool, true, false, nat_eq, if◌then◌else◌, None, OnOk, OnErr, IfOk, is_some, length, slice_index_or};
 ghost use Rattle.std.specs.FinSet.{contains};
 ghost use Rattle.std.specs.Option.{option_copied};
 ghost use Rattle.mig_base.specs.Ranges.{in_range};
 ghost use Rattle.mig_base.specs.declared.TheConstants.{HIGH_PAGE, PAGE_SIZE};
-ghost use Rattle.mig_base.specs.declared.chunk.TheConstants.{CHUNKS};
+ghost use Rattle.mig_base.specs.declared.chunk.TheConstants.{CHUNK, CHUNKS};
 ghost use Rattle.page_table.specs.Bytes.{IsWhole, unless_zeros, write_needs_room};
-ghost use Rattle.page_table.specs.Leaves.{Cell, cell_at, has_place, no_cell, with_protection, stored_cell, moved_cell, put_cell};
+ghost use Rattle.page_table.specs.Leaves.{Cell, cell_at, cell_in, has_place, no_cell, with_protection, stored_cell, moved_cell, put_cell};
 
 use crate::leaf::Place;
 use crate::page::Page;
 use crate::place::{
-    place_clear, place_copy, place_gather, place_get, place_get_unless_zeros, place_is_protected,
-    place_make, place_protect, place_put, place_take, place_write,
+    is_same_place, place_clear, place_copy, place_gather, place_get, place_get_unless_zeros,
+    place_is_protected, place_make, place_protect, place_put, place_take, place_write,
 };
 use mig_base::chunk::CHUNK;
 use mig_base::page_set::PageSet;
@@ -240,6 +240,31 @@ pub fn copy_places(alloc: Global, places: &Vec<Place>) -> Result<Vec<Place>, NoM
         copies.push(place_copy(alloc, &places[at])?)?;
     }
     Ok(copies)
+}
+
+/// Whether two lists of places have the same pages. A place without a leaf has missing pages, as one past the end of its list.
+pub fn are_same(places: &Vec<Place>, others: &Vec<Place>) -> bool
+    ensures { (result ≡ true) ↔
+        ((q : ℕ) → cell_at places.now.items q ≡ cell_at others.now.items q) }
+{
+    for at in 0..places.len().max(others.len()) {
+        if !is_same_at(places, others, at) {
+            return false;
+        }
+    }
+    true
+}
+
+/// Whether two lists of places have the same pages in one place.
+fn is_same_at(places: &Vec<Place>, others: &Vec<Place>, at: usize) -> bool
+    ensures { (result ≡ true) ↔
+        ((i : ℕ) → i < CHUNK → cell_in (slice_index_or places.now.items at None) i ≡
+        cell_in (slice_index_or others.now.items at None) i) }
+{
+    let none = None;
+    let place = places.get(at).unwrap_or(&none);
+    let other = others.get(at).unwrap_or(&none);
+    is_same_place(place, other)
 }
 
 /// The present pages, as a set. The call visits only the places that have a leaf. `NoMemory` if the set cannot grow.

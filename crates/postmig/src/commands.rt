@@ -5,6 +5,7 @@ ghost use Rattle.std.specs.Prelude.{◌≡◌, ◌≤◌, true, false, IfSome, I
 use crate::endings::{end_frames, end_script, end_tapped};
 use crate::histories::judge;
 use crate::showing::show;
+use crate::walks::walk;
 use clap::ArgMatches;
 use clap::error::ErrorKind;
 use command_line::{Shell, command_line, completion};
@@ -52,7 +53,8 @@ fn file_of<'a>(matches: &ArgMatches<'a>) -> Option<&'a str> {
 }
 
 /// What is wrong with a command line of `explore` that has no seed.
-const NO_SEEDS: &str = "one of these arguments is required:\n  --seed <S>\n  --seeds <A:B>";
+const NO_SEEDS: &str =
+    "one of these arguments is required:\n  --seed <S>\n  --seeds <A:B>\n  --all";
 
 /// What is wrong with the seeds of a command line.
 const BAD_SEEDS: &str =
@@ -341,9 +343,9 @@ fn plan_of(matches: &ArgMatches, seed: u64) -> Option<Plan> {
     Some(Plan {
         seed,
         steps: matches.get_one::<u32>("lines")?,
-        cpus: matches.get_one::<u8>("cpus")?,
+        cpus: matches.get_one::<u8>("cpus").unwrap_or(2),
         profile: Profile::named(matches.get_str("profile")?)?,
-        pages: matches.get_one::<u16>("pages")?,
+        pages: matches.get_one::<u16>("pages").unwrap_or(8),
         finish: matches.get_flag("finish"),
         sweep: matches.get_flag("sweep"),
         answers: matches.get_flag("answers"),
@@ -369,10 +371,13 @@ fn explore_seeds(
     Ok(())
 }
 
-/// Writes random scripts, one after the other.
+/// Writes random scripts, one after the other, or walks all schedules of a small world.
 fn explore(rt: &HostRuntime, matches: &ArgMatches) -> u8
     ensures { result ≤ 6 }
 {
+    if matches.get_flag("all") {
+        return walk(rt, matches);
+    }
     let Some((first, last)) = seeds_of(matches) else {
         let reason = match matches.get_str("seeds") {
             Some(_) => BAD_SEEDS,

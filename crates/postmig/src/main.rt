@@ -11,7 +11,7 @@
 //! - `postmig frames` reads frames, and writes a destination's answer to each.
 //! - `postmig draw` runs a script, and writes a picture of the run.
 //! - `postmig show` runs a script up to a line, and writes what is there.
-//! - `postmig explore` writes a random script.
+//! - `postmig explore` writes a random script, or with `--all` counts the states of a small world.
 //! - `postmig test` runs scripts whose lines have answers, and names the answers that differ, or with `--write` replaces them.
 //! - `postmig threads` reads nothing, runs a migration in threads, and writes a report.
 //! - `postmig completion` writes the script by which a shell completes command lines.
@@ -29,6 +29,7 @@ mod endings;
 mod histories;
 mod showing;
 mod status;
+mod walks;
 
 use crate::commands::answer;
 use std::process::ExitCode;

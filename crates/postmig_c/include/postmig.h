@@ -86,6 +86,12 @@ uint32_t postmig_world_answer(postmig_handle *world, uint8_t *out, size_t room, 
    two variables. */
 uint32_t postmig_world_copy(postmig_handle *world, bool is_transcript, postmig_handle *copy);
 
+/* Whether two worlds are the same: the memory, processors and userfaultfd objects of both nodes, what each node still has to do, the frames in
+   flight with the bytes of the first that have come, the counters, and the transcript. Then the same lines have the same outcomes in both. How
+   a world came about does not count, nor what its lines have printed. Both worlds stay as they are. It takes no memory, and time that grows
+   with all that the worlds hold. The two handles are two variables. POSTMIG_NOT_OPEN: one of them has no world. */
+uint32_t postmig_world_is_same(postmig_handle *world, postmig_handle *other, bool *is_same);
+
 /* Says what a line of a script would do, without doing it: POSTMIG_OK, or the refusal that it would print (POSTMIG_REFUSED_..). Whether there
    is memory for it is not considered. A comment, an empty line and progress are never refused. What the last line printed stays.
    POSTMIG_NOT_A_LINE; POSTMIG_NO_MEMORY: there was none to read the line. */

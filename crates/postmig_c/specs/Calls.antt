@@ -1,5 +1,5 @@
 -- The effect of the calls on a world.
-use Rattle.std.specs.Prelude.{◌≡◌, ◌⊎◌, ℕ, Bool, true, List, []}
+use Rattle.std.specs.Prelude.{◌≡◌, ◌↔◌, ◌⊎◌, ℕ, Bool, true, List, []}
 use Rattle.std.specs.declared.option.Option.{Option}
 use Rattle.std.specs.declared.option.Option.TheVariants.{None, Some}
 use Rattle.mig_base.specs.declared.phase.WorldPhase.{WorldPhase}
@@ -46,6 +46,14 @@ pub record HasCopy (runner : Gathered) (is_transcript : Bool) (content : Option 
   pub state : Machine
   pub runs : run_world runner.work ≡ Some state
   pub has : content ≡ Some (a_world (Running (tested_mode is_transcript) state))
+
+-- the handles have worlds that are run, and this says whether they are the same
+pub record AreCompared (runner other : Gathered) (is_same : Bool) : Type 0 where
+  pub state : Machine
+  pub other_state : Machine
+  pub runs : run_world runner.work ≡ Some state
+  pub other_runs : run_world other.work ≡ Some other_state
+  pub told : (is_same ≡ true) ↔ (state ≡ other_state)
 
 -- A line
 

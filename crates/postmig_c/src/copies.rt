@@ -1,12 +1,12 @@
-//! The copy of a world.
+//! The copy of a world, and whether two worlds are the same.
 
 ghost use Rattle.std.specs.Prelude.{◌≡◌, ◌≢◌, ◌⊎◌};
 ghost use Rattle.std.specs.declared.option.Option.TheVariants.{None as Nothing};
 ghost use Rattle.engine.specs.Engine.{run_world};
-ghost use Rattle.postmig_c.specs.Calls.{HasCopy, HasNoRun, OfWorld};
+ghost use Rattle.postmig_c.specs.Calls.{AreCompared, HasCopy, HasNoRun, OfWorld};
 
 use crate::handle::{Content, Handle};
-use crate::status::{NO_MEMORY, NOT_OPEN};
+use crate::status::{DONE, NO_MEMORY, NOT_OPEN};
 use crate::worlds::{mode_of, open};
 use engine::LineRunner;
 use std::alloc::Global;
@@ -52,5 +52,54 @@ pub extern "C" fn postmig_world_copy(
         _ => NOT_OPEN,
     };
     *handle = Handle::of(content);
+    status
+}
+
+/// Whether the worlds of two runners are the same.
+fn compare(runner: &LineRunner, other: &LineRunner, is_same: &mut bool) -> u32
+    ensures compared { result ≡ 0 → AreCompared runner.now other.now is_same.new }
+    ensures not_run { result ≡ 2 →
+        (run_world runner.now.work ≡ Nothing) ⊎ (run_world other.now.work ≡ Nothing) }
+    ensures range { (result ≡ 0) ⊎ (result ≡ 2) }
+{
+    let Some(world) = runner.world() else {
+        return NOT_OPEN;
+    };
+    let Some(found) = other.world() else {
+        return NOT_OPEN;
+    };
+    *is_same = world.is_same(found);
+    DONE
+}
+
+/// Whether the worlds of two handles are the same. What their lines have printed does not count, nor does how the worlds came about.
+#[unsafe(no_mangle)]
+pub extern "C" fn postmig_world_is_same(
+    alloc: Global,
+    handle: &mut Handle,
+    other: &mut Handle,
+    is_same: &mut bool,
+) -> u32
+    ensures compared { result ≡ 0 → OfWorld handle.old.content (λ runner.
+        OfWorld other.old.content (λ twin. AreCompared runner twin is_same.new)) }
+    ensures not_open { result ≡ 2 →
+        HasNoRun handle.old.content ⊎ HasNoRun other.old.content }
+    ensures same { handle.new.content ≡ handle.old.content }
+    ensures same_other { other.new.content ≡ other.old.content }
+    ensures range { (result ≡ 0) ⊎ (result ≡ 2) }
+{
+    let Some(content) = handle.take(alloc) else {
+        return NOT_OPEN;
+    };
+    let Some(found) = other.take(alloc) else {
+        *handle = Handle::of(content);
+        return NOT_OPEN;
+    };
+    let status = match (&*content, &*found) {
+        (Content::World(runner), Content::World(twin)) => compare(runner, twin, is_same),
+        _ => NOT_OPEN,
+    };
+    *handle = Handle::of(content);
+    *other = Handle::of(found);
     status
 }

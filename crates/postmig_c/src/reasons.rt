@@ -2,16 +2,16 @@
 
 ghost use Rattle.std.specs.Prelude.{◌≡◌, ◌⊎◌, ℕ, List, [], IfOk, IfSome, IfNone, codes};
 ghost use Rattle.std.specs.declared.option.Option.TheVariants.{Some as Just};
-ghost use Rattle.grammar.specs.Lines.{HasNoFeed};
 ghost use Rattle.lint.specs.Listing.{ListsAll};
 ghost use Rattle.postmig_c.specs.Reasons.{IsLine, IsReason, language_for};
 ghost use Rattle.postmig_c.specs.Room.{Fills, IsTooLong};
 
 use crate::room::hand_over;
 use crate::status::{DONE, NO_MEMORY, NOT_A_LINE};
-use engine::script_reader::{MAX_LINE, split_line};
+use engine::script_reader::MAX_LINE;
 use grammar::Language;
 use grammar::parse::parse;
+use lines::first_line;
 use lint::{Reason, lint_lines, reason_of};
 use mig_base::NoMemory;
 use std::alloc::Global;
@@ -45,16 +45,6 @@ fn reason_in(
     match parse(language, &mut tokens, text)? {
         Some(_) => Ok(None),
         None => Ok(Some(reason_of(text, language))),
-    }
-}
-
-/// The bytes before the first line feed.
-fn first_line(bytes: &[u8]) -> &[u8]
-    ensures { HasNoFeed result.now }
-{
-    match split_line(bytes) {
-        Some((front, _)) => front,
-        None => bytes,
     }
 }
 

@@ -1,6 +1,6 @@
 //! The type that callers see: the source of a migration.
 
-ghost use Rattle.std.specs.Prelude.{◌≡◌, ◌↔◌, false, length, IfOk, Err};
+ghost use Rattle.std.specs.Prelude.{◌≡◌, ◌↔◌, true, false, length, IfOk, Err};
 ghost use Rattle.mig_model.specs.Source as machine;
 ghost use Rattle.vcpu.specs.Answers.{is_count};
 
@@ -121,6 +121,26 @@ impl Source {
         })
     }
 
+    /// Whether both sources are the same: their progress, their guests, what they know, what they still have to send, and their counts.
+    pub fn is_same(&self, other: &Self) -> bool
+        ensures { (result ≡ true) ↔ (self.now ≡ other.now) }
+    {
+        self.phase == other.phase
+            && self.switched == other.switched
+            && self.epoch == other.epoch
+            && self.end_epoch == other.end_epoch
+            && self.urgent_sent == other.urgent_sent
+            && self.packaged == other.packaged
+            && self.rounds == other.rounds
+            && self.pages_sent == other.pages_sent
+            && self.faults == other.faults
+            && are_same_pages(&self.asked, &other.asked)
+            && self.cpus.is_same(&other.cpus)
+            && self.remaining.is_same(&other.remaining)
+            && self.log.is_same(&other.log)
+            && self.space.is_same(&other.space)
+    }
+
     /// The phase of the source.
     pub fn phase(&self) -> SourcePhase
         ensures { result ≡ self.now.phase }
@@ -208,4 +228,11 @@ fn copy_pages(alloc: Global, pages: &VecDeque<PageNo>) -> Result<VecDeque<PageNo
         copy.push_back(pages[i])?;
     }
     Ok(copy)
+}
+
+/// Whether two queues have the same pages in the same order.
+fn are_same_pages(pages: &VecDeque<PageNo>, others: &VecDeque<PageNo>) -> bool
+    ensures { (result ≡ true) ↔ (pages.now.items ≡ others.now.items) }
+{
+    pages == others
 }

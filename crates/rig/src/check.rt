@@ -5,7 +5,6 @@ ghost use Rattle.std.specs.List.{slice_get};
 ghost use Rattle.mig_base.specs.declared.TheConstants.{MAX_CPUS};
 ghost use Rattle.rig.specs.Seats.{answers_of, list_of, seats_of, IsRight, IsLeastWrong};
 
-use crate::same::is_same;
 use crate::seat::{Answer, CpuSeat};
 use mig_base::{Entry, MAX_CPUS};
 
@@ -46,6 +45,14 @@ fn next_wanted<'a>(
             [] => None,
         },
     }
+}
+
+/// Whether two answers are the same.
+fn is_same(one: Answer, other: Answer) -> bool
+    ensures yes { result ≡ true → one ≡ other }
+    ensures no { result ≡ false → one ≡ other → ⊥ }
+{
+    one == other
 }
 
 /// Whether the processor's answers in `entries` are those in `opening` and then `list`.

@@ -10,7 +10,7 @@
 //! No contract says that a thread runs, wakes or ends.
 //!
 //! The modules: `gate` (what decides the turns of the workers), `turns` and `sending` (their loops, over anything that has turns), `seat`
-//! (the answers of a processor), `section` (what is done while the lock is held), `same` (equal answers), `remaining` (the pages of
+//! (the answers of a processor), `section` (what is done while the lock is held), `remaining` (the pages of
 //! claims), `check` (the test of the seats), `rig` (the type that callers share), `locked` (the turns under its lock).
 #![tactic(auto)]
 
@@ -19,7 +19,6 @@ mod gate;
 mod locked;
 mod remaining;
 mod rig;
-mod same;
 mod seat;
 mod section;
 mod sending;

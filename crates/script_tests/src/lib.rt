@@ -9,12 +9,12 @@
 #[cfg(test)]
 mod entries;
 #[cfg(test)]
-mod lines;
-#[cfg(test)]
 mod many;
 #[cfg(test)]
 mod outcomes;
 #[cfg(test)]
 mod pieces;
+#[cfg(test)]
+mod script_lines;
 #[cfg(test)]
 mod streams;

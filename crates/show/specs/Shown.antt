@@ -81,13 +81,6 @@ pub record IsWrongAt (bytes : List ℕ) (n : ℕ) : Type 0 where
   pub number : n ≡ length lines + 1
   pub wrong : BeginsWrong Script rest
 
--- a read failed, or memory ran out
-abbrev pub IsReadFault : RunFault → Type 0
-IsReadFault (faults.Line n) = ⊥
-IsReadFault faults.ReadFault = ⊤
-IsReadFault faults.WriteFault = ⊥
-IsReadFault faults.NoMemory = ⊤
-
 -- why bytes were not run to their end: at a wrong line they are no script
 abbrev pub IsStop : List ℕ → RunFault → Type 0
 IsStop bytes (faults.Line n) = IsWrongAt bytes n

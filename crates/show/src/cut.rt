@@ -3,7 +3,7 @@
 ghost use Rattle.std.specs.Prelude.{IfSome, IfNone};
 ghost use Rattle.show.specs.Shown.{AreFirst, HasFewer, IsBeyond, IsRun};
 
-use engine::script_reader::split_line;
+use lines::Lines;
 
 /// The first `count` lines of some bytes, with their line feeds. `None` if there are fewer. What comes after the last line
 /// feed is a line too, unless nothing does.
@@ -11,19 +11,11 @@ fn first_lines(bytes: &[u8], count: u64) -> Option<&[u8]>
     ensures some { IfSome result (λ front. AreFirst count bytes.now front.now) }
     ensures none { IfNone result (HasFewer count bytes.now) }
 {
-    let mut rest = bytes;
-    let mut left = count;
-    while left > 0 {
-        let Some((_, after)) = split_line(rest) else {
-            if left == 1 && !rest.is_empty() {
-                return Some(bytes);
-            }
-            return None;
-        };
-        rest = after;
-        left -= 1;
+    let mut lines = Lines::new(bytes);
+    for _ in 0..count {
+        lines.next()?;
     }
-    Some(&bytes[..bytes.len() - rest.len()])
+    Some(&bytes[..bytes.len() - lines.rest().len()])
 }
 
 /// The lines of an input that are run: the number asked for, or all. `None` if there are fewer.

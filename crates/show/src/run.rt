@@ -2,30 +2,18 @@
 
 ghost use Rattle.std.specs.Prelude.{◌≡◌, ◌≤◌, ◌++◌, IfOk, IfErr, IfSome, OnOk};
 ghost use Rattle.mig_model.specs.Migration.{first_world};
-ghost use Rattle.show.specs.Shown.{IsReadFault, IsStop, LeadsTo, Shows, ShowStops, Writes, WriteStops};
+ghost use Rattle.show.specs.Shown.{IsStop, LeadsTo, Shows, ShowStops, Writes, WriteStops};
 
 use crate::cut::run_lines;
 use crate::facts::facts_of;
 use crate::what::Asked;
 use engine::line_runner::write_out;
 use engine::run::read_lines;
+use engine::whole_input::read_whole;
 use engine::{LineRunner, Mode, RunFault, ScriptReader};
 use std::alloc::Global;
-use std::io::{ErrorKind, Read, Write, sink};
+use std::io::{Read, Write, sink};
 use world::World;
-
-/// Puts all that a reader has after the bytes.
-fn read_whole<R: Read>(reader: &mut R, bytes: &mut Vec<u8>) -> Result<(), RunFault>
-    ensures ok { OnOk result (IfSome (R.remaining reader.old) (λ input.
-        bytes.new.items ≡ bytes.old.items ++ input)) }
-    ensures fault { IfErr result IsReadFault }
-{
-    match reader.read_to_end(bytes) {
-        Ok(_) => Ok(()),
-        Err(error) if error.kind() == ErrorKind::OutOfMemory => Err(RunFault::NoMemory),
-        Err(_) => Err(RunFault::ReadFault),
-    }
-}
 
 /// The world in which the run of a script ends.
 fn world_of(alloc: Global, script: &[u8], cpus: u8) -> Result<World, RunFault>

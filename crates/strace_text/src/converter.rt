@@ -7,8 +7,10 @@ mod maps;
 mod objects;
 mod processes;
 mod reads;
+mod sockets;
 
 use crate::converter::known::Known;
+use crate::converter::sockets::Sent;
 use crate::files::Files;
 use crate::kind::Kind;
 use crate::log::LogText;
@@ -56,6 +58,8 @@ pub(crate) struct Converter {
     made: IndexMap<u64, Maker>,
     /// What was registered, or moved from there, in the whole trace.
     ranges: IndexSet<Range>,
+    /// The messages that were sent with objects, and are not received yet, in their order.
+    sent: Vec<Sent>,
 }
 
 impl Converter {
@@ -74,6 +78,7 @@ impl Converter {
             memories: IndexMap::new(alloc),
             made: IndexMap::new(alloc),
             ranges: IndexSet::new(alloc),
+            sent: Vec::new(alloc),
         })
     }
 
@@ -124,6 +129,8 @@ impl Converter {
             Kind::Dup3 => self.plan_dup3(call),
             Kind::Fcntl => self.plan_fcntl(call),
             Kind::PidfdGetfd => self.plan_pidfd_getfd(call),
+            Kind::Sendmsg => self.plan_sendmsg(call),
+            Kind::Recvmsg => self.plan_recvmsg(call),
             Kind::Vfork | Kind::Other if has(&call.arguments, OBJECT) => {
                 let wrong = "of a userfault object is no call of a log";
                 Err(refuse_bytes(self.alloc, &call.name, wrong))

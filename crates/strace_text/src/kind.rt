@@ -24,6 +24,8 @@ pub(crate) enum Kind {
     Dup3,
     Fcntl,
     PidfdGetfd,
+    Sendmsg,
+    Recvmsg,
     /// It may be made with an object, and is none of the language: it waits for it or sends it, or changes nothing.
     Passing,
     /// The end of a thread; it is not a call.
@@ -60,8 +62,8 @@ static KINDS: [(&str, Kind); 41] = [
     ("epoll_pwait2", Kind::Passing),
     ("select", Kind::Passing),
     ("pselect6", Kind::Passing),
-    ("sendmsg", Kind::Passing),
-    ("recvmsg", Kind::Passing),
+    ("sendmsg", Kind::Sendmsg),
+    ("recvmsg", Kind::Recvmsg),
     ("fstat", Kind::Passing),
     ("newfstatat", Kind::Passing),
     ("statx", Kind::Passing),

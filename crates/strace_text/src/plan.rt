@@ -17,6 +17,8 @@ pub(crate) enum After {
     Release { set: usize, on: On },
     /// The process runs a program with these words.
     Start(String),
+    /// The thread has received a message with descriptors.
+    Receive,
 }
 
 /// What a call becomes: the words of the line that begins it, those of the messages that it has read, and those of its end. No end if it

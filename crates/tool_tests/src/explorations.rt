@@ -3,7 +3,8 @@
 //! `bench/check/explored.py` judges what is written, by the other commands.
 
 use engine::RunFault;
-use explore::{Plan, Profile, run_explore};
+use explore::{Met, Plan, Profile, Tally, meet_all, run_explore};
+use schedules::{Small, WalkFault, walk_schedules};
 use std::alloc::{AllocError, Global};
 use std::io;
 use std::io::Write;
@@ -112,5 +113,39 @@ fn out_of_memory_leaves_whole_lines(rt: HostRuntime) -> Result<(), Fail> {
     } else {
         assert!(rt; outcome.is_ok());
     }
+    Ok(())
+}
+
+/// What all schedules of a small world meet, where it has at most this number of states.
+fn meet(alloc: Global, most: usize) -> Result<Met, WalkFault> {
+    let small = Small {
+        cpus: 1,
+        pages: 1,
+        breaks: 0,
+        rounds: 0,
+        commands: 1,
+    };
+    let walked = walk_schedules(alloc, &small, most)?;
+    meet_all(alloc, &small, &walked).map_err(|_| WalkFault::NoMemory)
+}
+
+/// A small world has the states that `bench/check/explored_all.py` counts without this crate, and no more are found than are asked for.
+#[test]
+fn a_small_world(rt: HostRuntime) -> Result<(), Fail> {
+    match meet(rt.alloc(), 313) {
+        Ok(met) => {
+            let tally = Tally {
+                states: 313,
+                steps: 567,
+                refusals: 6194,
+                complete: 35,
+                dead_ends: 0,
+            };
+            assert!(rt; met.tally == tally);
+            assert_eq!(rt; met.meetings.len(), 42);
+        }
+        Err(fault) => assert!(rt; fault == WalkFault::NoMemory),
+    }
+    assert!(rt; meet(rt.alloc(), 312).is_err());
     Ok(())
 }

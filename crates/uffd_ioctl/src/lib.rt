@@ -31,7 +31,7 @@ pub mod space;
 
 pub use crate::fault::{Copied, CopyFault, IoctlFault};
 pub use crate::lent::{install_page, make_zeros};
-pub use crate::page_fault::{PageFault, copy_faults};
+pub use crate::page_fault::{PageFault, are_same_faults, copy_faults};
 pub use crate::space::Space;
 pub use mig_base::{Access, Message, Wake};
 pub use userfault::Mode;

@@ -1,6 +1,6 @@
 //! A page fault that a handler has read and not resolved yet.
 
-ghost use Rattle.std.specs.Prelude.{◌≡◌, ◌*◌, IfOk};
+ghost use Rattle.std.specs.Prelude.{◌≡◌, ◌*◌, ◌↔◌, true, IfOk};
 
 use mig_base::{Addr, NoMemory, PAGE_SIZE};
 use std::alloc::Global;
@@ -8,7 +8,7 @@ use std::collections::VecDeque;
 use std::marker::Model;
 
 /// A page fault: its page, and whether it is a write-protect fault.
-#[derive(Drop)]
+#[derive(Drop, PartialEq, Eq)]
 pub struct PageFault {
     page: u64,
     wp: bool,
@@ -24,6 +24,8 @@ impl Model for PageFault {
     ghost coded = { coded_fault };
 
     ghost view = { λ fault. record { page = fault.page; wp = fault.wp } };
+
+    ghost inverse = { λ fault. record { page = fault.page; wp = fault.wp } };
 
     ghost invariant = { λ fault. 4096 * fault.page < 2 ^ 64 };
 }
@@ -85,4 +87,11 @@ pub fn copy_faults(
         copy.push_back(faults[i].copy())?;
     }
     Ok(copy)
+}
+
+/// Whether a handler holds the same faults as another, in the same order.
+pub fn are_same_faults(faults: &VecDeque<PageFault>, others: &VecDeque<PageFault>) -> bool
+    ensures { (result ≡ true) ↔ (faults.now.items ≡ others.now.items) }
+{
+    faults == others
 }

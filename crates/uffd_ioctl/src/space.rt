@@ -1,6 +1,6 @@
 //! The type that callers see: an address space with its userfault object.
 
-ghost use Rattle.std.specs.Prelude.{◌≡◌, ℕ, ◌<◌, ◌≤◌, IfOk, IfErr, OnErr, None, []};
+ghost use Rattle.std.specs.Prelude.{◌≡◌, ℕ, ◌<◌, ◌≤◌, ◌↔◌, true, IfOk, IfErr, OnErr, None, []};
 ghost use Rattle.std.specs.Option.{option_copied, option_map};
 ghost use Rattle.std.specs.FinMap as map;
 ghost use Rattle.std.specs.FinSet as set;
@@ -188,6 +188,15 @@ impl Space {
             pages: self.pages.copy()?,
             object,
         })
+    }
+
+    /// Whether the two spaces are equal: their areas, their pages with bytes and protection, and their objects.
+    pub fn is_same(&self, other: &Self) -> bool
+        ensures { (result ≡ true) ↔ (self.now ≡ other.now) }
+    {
+        self.areas.is_same(&other.areas)
+            && self.pages.is_same(&other.pages)
+            && self.object.is_same(&other.object)
     }
 
     /// The set of the present pages. `NoMemory` if the allocation fails.

@@ -1,6 +1,6 @@
 //! An unread message, and a queue of them.
 
-ghost use Rattle.std.specs.Prelude.{◌≡◌, IfOk};
+ghost use Rattle.std.specs.Prelude.{◌≡◌, ◌↔◌, true, IfOk};
 ghost use Rattle.mig_base.specs.Userfault.{is_fault_at, waits_fault};
 
 use mig_base::{Addr, Message, NoMemory};
@@ -9,7 +9,7 @@ use std::collections::VecDeque;
 use std::marker::Model;
 
 /// An unread message, and the processor that caused it.
-#[derive(Clone, Copy)]
+#[derive(Clone, Copy, PartialEq, Eq)]
 pub struct Noted {
     message: Message,
     cpu: u8,
@@ -87,4 +87,11 @@ pub fn copy_queue(alloc: Global, queue: &VecDeque<Noted>) -> Result<VecDeque<Not
         copy.push_back(queue[i])?;
     }
     Ok(copy)
+}
+
+/// Whether two queues have equal messages, in the same order.
+pub fn is_same_queue(queue: &VecDeque<Noted>, other: &VecDeque<Noted>) -> bool
+    ensures { (result ≡ true) ↔ (queue.now.items ≡ other.now.items) }
+{
+    queue == other
 }

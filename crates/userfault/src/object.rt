@@ -1,6 +1,6 @@
 //! The type that callers see: one userfault object.
 
-ghost use Rattle.std.specs.Prelude.{◌≡◌, true, false, ℕ, ◌+◌, ◌-◌, ◌≤◌, if◌then◌else◌, Some, None, [], take, OnOk, OnErr, IfOk};
+ghost use Rattle.std.specs.Prelude.{◌≡◌, true, false, ℕ, ◌+◌, ◌-◌, ◌≤◌, ◌↔◌, if◌then◌else◌, Some, None, [], take, OnOk, OnErr, IfOk};
 ghost use Rattle.std.specs.Option.{option_map};
 ghost use Rattle.mig_base.specs.Ranges.{in_range};
 ghost use Rattle.mig_base.specs.declared.TheConstants.{HIGH_PAGE};
@@ -13,7 +13,7 @@ pub mod moves;
 mod runs;
 
 use crate::modes::{Mode, has_all, is_one_run, registered};
-use crate::noted::{Noted, copy_queue, waits};
+use crate::noted::{Noted, copy_queue, is_same_queue, waits};
 use mig_base::flags::{THREAD_ID_BIT, has_bit};
 use mig_base::{Addr, Message, NoMemory, PageNo, PageSet};
 use std::alloc::Global;
@@ -288,5 +288,17 @@ impl Userfault {
             faults: copy_queue(self.alloc, &self.faults)?,
             events: copy_queue(self.alloc, &self.events)?,
         })
+    }
+
+    /// Whether the two objects are equal, with their unread messages.
+    pub fn is_same(&self, other: &Self) -> bool
+        ensures { (result ≡ true) ↔ (self.now ≡ other.now) }
+    {
+        self.enabled == other.enabled
+            && self.features == other.features
+            && self.missing.is_same(&other.missing)
+            && self.protect.is_same(&other.protect)
+            && is_same_queue(&self.faults, &other.faults)
+            && is_same_queue(&self.events, &other.events)
     }
 }

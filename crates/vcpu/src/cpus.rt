@@ -60,6 +60,13 @@ impl Cpus {
         })
     }
 
+    /// Whether the two guests have equal processors.
+    pub fn is_same(&self, other: &Self) -> bool
+        ensures { (result ≡ true) ↔ (self.now ≡ other.now) }
+    {
+        self.states == other.states
+    }
+
     /// The number of processors, 1 to 16.
     pub fn count(&self) -> u8
         ensures count { result ≡ length self.now }

@@ -15,7 +15,7 @@ use Rattle.frame_decoder.specs.declared.version.Version.TheVariants as versions
 use Rattle.wires.specs.Chunks.{AreChunks, IsFull, frames_in, in_flight, in_full, left, pieces}
 use Rattle.mig_model.specs.Invariant.{HeldFits}
 use Rattle.wires.specs.declared.chunks.Chunks.{Chunks}
-use Rattle.wires.proofs.ChunkLemmas.{length-text_of}
+use Rattle.wires.proofs.ChunkLemmas.{length-text_of, those}
 use Rattle.mig_base.proofs.ByteLemmas.{concat-push}
 
 abbrev text_of : Sent → List ℕ
@@ -90,3 +90,10 @@ part_held (sent ∷ rest) held each is =
 
 pub held_decoded : (chunks : Chunks) (held : ℕ) → AreChunks chunks → HeldFits (in_flight chunks) held → Decodes (take held (bytes_in chunks)) [] (take held (bytes_in chunks))
 held_decoded chunks held are is = subst (λ (bytes : List ℕ). Decodes (take held bytes) [] (take held bytes)) (sym (bytes_are chunks are)) (part_held (in_flight chunks) held (all_sent chunks are) is)
+
+-- the same bytes are the same frames: the texts tell them
+pub same_frames : (chunks others : Chunks) → AreChunks chunks → AreChunks others → bytes_in chunks ≡ bytes_in others → in_flight chunks ≡ in_flight others
+same_frames chunks others are also same =
+    sym (those (bytes_in chunks) (in_flight chunks) (all_sent chunks are) (bytes_are chunks are)).frames_are
+    ∙ ap (λ (bytes : List ℕ). frames_in bytes) same
+    ∙ (those (bytes_in others) (in_flight others) (all_sent others also) (bytes_are others also)).frames_are

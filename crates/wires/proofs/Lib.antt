@@ -1,3 +1,4 @@
 pub mod ByteLemmas
 pub mod ChunkLemmas
+pub mod PieceLemmas
 pub mod WireLemmas

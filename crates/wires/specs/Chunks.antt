@@ -1,7 +1,7 @@
 -- The bytes in flight, as frames.
 use Rattle.std.specs.Prelude.{◌≡◌, ℕ, zero, suc, ◌-◌, ◌/◌, ◌≤◌, List, [], ◌∷◌, ◌++◌, length, map, drop, Some}
 use Rattle.std.specs.Global.{Vec}
-use Rattle.std.specs.List.{flat_map, AllByRecursion}
+use Rattle.std.specs.List.{concat, flat_map, AllByRecursion}
 use Rattle.std.specs.Vec.{vec_capacity, vec_len}
 use Rattle.mig_model.specs.Wire.{Sent}
 use Rattle.frame_decoder.specs.Reading.{Front, next_at}
@@ -48,6 +48,10 @@ in_flight chunks = frames_in (left chunks) ++ (in_full chunks.full.items ++ fram
 -- the bytes of the frames in flight, a piece for each chunk
 abbrev pub pieces : Chunks → List (List ℕ)
 pieces chunks = left chunks ∷ (map (λ (chunk : Vec ℕ). chunk.items) chunks.full.items ++ chunks.writing.items ∷ [])
+
+-- what is left of a piece, and the bytes of the pieces from `next` on
+abbrev pub bytes_from : List (List ℕ) → List ℕ → ℕ → List ℕ
+bytes_from pieces rest next = rest ++ concat (drop next pieces)
 
 -- the number of frames for which there is room, however long they are
 abbrev pub room : Chunks → ℕ

@@ -1,11 +1,11 @@
 //! The bytes in flight.
 
-ghost use Rattle.std.specs.Prelude.{◌≡◌, ◌+◌, ◌-◌, ◌≤◌, ◌<◌, ◌++◌, ◌∷◌, [], IfOk, OnOk, length, map, slice_index_or, vec_capacity, vec_len};
+ghost use Rattle.std.specs.Prelude.{◌≡◌, ◌↔◌, true, ◌+◌, ◌-◌, ◌≤◌, ◌<◌, ◌++◌, ◌∷◌, [], IfOk, OnOk, length, map, slice_index_or, vec_capacity, vec_len};
 ghost use Rattle.mig_base.specs.Tests.{is_empty as is_none_of};
 ghost use Rattle.mig_model.specs.Bounds.{IsFrame};
 ghost use Rattle.mig_model.specs.Wire as machine;
 ghost use Rattle.page_stream.specs.Frames.{frame_of};
-ghost use Rattle.wires.specs.Chunks.{AreChunks, in_flight, left, pieces, room};
+ghost use Rattle.wires.specs.Chunks.{AreChunks, bytes_from, in_flight, left, pieces, room};
 
 use mig_base::{MAX_CPUS, MAX_PAGES, NoMemory, PAGE_BYTES, PageNo};
 use page_stream::{Frame, encode_into, encode_page_into};
@@ -61,6 +61,43 @@ impl Chunks {
             full,
             writing,
         })
+    }
+
+    /// Whether the same frames are in flight. Their texts may be cut into chunks at other places.
+    pub(crate) fn is_same(&self, other: &Self) -> bool
+        requires { AreChunks self.now × AreChunks other.now }
+        ensures { (result ≡ true) ↔ (in_flight self.now ≡ in_flight other.now) }
+    {
+        let (mut mine, mut next) = self.front(self.left(), 1);
+        let (mut theirs, mut other_next) = other.front(other.left(), 1);
+        while !mine.is_empty() && !theirs.is_empty() {
+            let len = mine.len().min(theirs.len());
+            let (front, rest) = mine.split_at(len);
+            let (other_front, other_rest) = theirs.split_at(len);
+            if front != other_front {
+                return false;
+            }
+            (mine, next) = self.front(rest, next);
+            (theirs, other_next) = other.front(other_rest, other_next);
+        }
+        mine.is_empty() && theirs.is_empty()
+    }
+
+    /// What is left of a piece, or the bytes of the first piece from `next` on that has some, and the number of the piece after it. No
+    /// bytes, if none of these pieces has any.
+    fn front<'a>(&'a self, rest: &'a [u8], next: usize) -> (&'a [u8], usize)
+        requires { AreChunks self.now }
+        ensures stays { bytes_from (pieces self.now) result.0.now result.1 ≡
+            bytes_from (pieces self.now) rest.now next }
+        ensures none { result.0.now ≡ [] → bytes_from (pieces self.now) result.0.now result.1 ≡ [] }
+    {
+        let mut bytes = rest;
+        let mut at = next;
+        while bytes.is_empty() && at < self.pieces() {
+            bytes = self.piece(at);
+            at += 1;
+        }
+        (bytes, at)
     }
 
     /// Whether no byte is in flight.

@@ -1,6 +1,6 @@
 //! A wire: the type that callers see.
 
-ghost use Rattle.std.specs.Prelude.{◌≡◌, ◌+◌, ◌<◌, ◌≤◌, ◌++◌, ◌∷◌, [], length, slice_index_or, take, None, IfOk, OnOk, List};
+ghost use Rattle.std.specs.Prelude.{◌≡◌, ◌↔◌, true, ◌+◌, ◌<◌, ◌≤◌, ◌++◌, ◌∷◌, [], length, slice_index_or, take, None, IfOk, OnOk, List};
 ghost use Rattle.std.specs.List.{AllByRecursion};
 ghost use Rattle.std.specs.Option.{IfSome};
 ghost use Rattle.mig_base.specs.Tests.{is_empty as is_none_of};
@@ -81,6 +81,13 @@ impl Wire {
             held: self.held,
             first_len: self.first_len,
         })
+    }
+
+    /// Whether the same frames are in flight, and as many bytes of the first have come. The pieces and the room may differ.
+    pub fn is_same(&self, other: &Self) -> bool
+        ensures { (result ≡ true) ↔ (self.now.wire ≡ other.now.wire) }
+    {
+        self.held == other.held && self.chunks.is_same(&other.chunks)
     }
 
     /// Whether nothing is in flight.

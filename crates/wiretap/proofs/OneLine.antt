@@ -1,6 +1,6 @@
 -- One line: its output, and what its step puts on the wires.
-use Rattle.std.proofs.Common.{◌≡◌, ℕ, ◌+◌, List, [], ◌∷◌, ◌++◌, length, length-append, take, drop, Option, Some, None, refl, sym, ap, subst, ◌∙◌, append_assoc, append-nil, inl, inr, arith}
-use Rattle.std.proofs.lemmas.List.{drop_all, take_at}
+use Rattle.std.proofs.Common.{◌≡◌, ℕ, ◌+◌, List, [], ◌∷◌, ◌++◌, length, drop, Bool, true, false, Option, Some, None, refl, sym, ap, subst, ◌∙◌, append_assoc, append-nil, inl, inr, arith}
+use Rattle.std.proofs.lemmas.List.{drop_all}
 use Rattle.mig_model.specs.Wire.{Wire}
 use Rattle.frame_decoder.specs.Streams.{texts}
 use Rattle.frame_decoder.specs.declared.version.Version.TheVariants.{Two}
@@ -10,6 +10,7 @@ use Rattle.grammar.specs.declared.line.Line.{Line}
 use Rattle.grammar.specs.declared.line.Line.TheVariants.{Skipped, Do, Enter}
 use Rattle.grammar.specs.Lines.{HasNoFeed, Reads, ReadsLine}
 use Rattle.grammar.specs.Orders.{step_of}
+use Rattle.lines.specs.Lines.{with_feed}
 use Rattle.grammar.proofs.Cuts.{no_feed-append, feed_inside, one_cut}
 use Rattle.mig_base.specs.declared.schedule.Step.{Step}
 use Rattle.engine.specs.declared.line_runner.Mode.{Mode}
@@ -54,14 +55,10 @@ few l held bytes lines rest one ends r = elim ends [
       few_ended l (held ++ cut.0) lines rest (no_feed-append held cut.0 one cut.1) (subst (λ (b : List ℕ). ReadsEnded l b lines rest) whole r)
 ]
 
--- the bytes up to a line feed
-pub line_cut : (rest front bytes_in_flight line : List ℕ) → HasNoFeed front → rest ≡ front ++ 10 ∷ bytes_in_flight → line ≡ take (length front + 1) rest → EndsOne line
-line_cut rest front bytes_in_flight line one whole is =
-    inr (
-      front,
-      one,
-      is ∙ ap (take (length front + 1)) (whole ∙ sym (append_assoc front (10 ∷ []) bytes_in_flight)) ∙ take_at (front ++ 10 ∷ []) bytes_in_flight (length front + 1) (length-append front (10 ∷ [])),
-    )
+-- a line with its line feed, if one ends it
+pub ends_one : (ended : Bool) (raw whole : List ℕ) → HasNoFeed raw → whole ≡ with_feed ended raw → EndsOne whole
+ends_one true raw whole one is = inr (raw, one, is)
+ends_one false raw whole one is = inl (subst HasNoFeed (sym is) one)
 
 -- nothing is a line
 nothing_read : (l : Language) (line : Line) (rest : List ℕ) → ReadsLine l [] line rest → ⊥

@@ -92,11 +92,9 @@ done_line contents a b c bytes rest line behind w0 w1 w2 t0 t1 t2 done cut moves
   moves = moves_then contents a b c done.front line w0 w1 w2 t0 t1 t2 done.moves moves;
 }
 
-pub done_rest : {T E : Type 0} (result : Result T E) {S : Type 0} (contents : S → Option (List ℕ)) (a b c : Place) (bytes rest : List ℕ) (w0 w1 w2 : Option (List ℕ)) (t0 t1 t2 : Taps S)
-    → Done contents a bytes rest b w0 w1 t0 t1 → OnOk result (Moves contents b rest c w1 w2 t1 t2) → OnOk result (Moves contents a bytes c w0 w2 t0 t2)
-done_rest (Err x) contents a b c bytes rest w0 w1 w2 t0 t1 t2 done moves = tt
-done_rest (Ok x) contents a b c bytes rest w0 w1 w2 t0 t1 t2 done moves =
-    subst (λ (t : List ℕ). Moves contents a t c w0 w2 t0 t2) (sym done.parts) (moves_then contents a b c done.front rest w0 w1 w2 t0 t1 t2 done.moves moves)
+pub done_all : {T : Type 0} (contents : T → Option (List ℕ)) (a b : Place) (bytes rest : List ℕ) (w0 w1 : Option (List ℕ)) (t0 t1 : Taps T) → Done contents a bytes rest b w0 w1 t0 t1 → rest ≡ [] → Moves contents a bytes b w0 w1 t0 t1
+done_all contents a b bytes rest w0 w1 t0 t1 done none =
+    subst (λ (t : List ℕ). Moves contents a t b w0 w1 t0 t1) (sym (done.parts ∙ ap (λ (t : List ℕ). done.front ++ t) none ∙ append-nil done.front)) done.moves
 
 -- A whole input
 

@@ -12,8 +12,8 @@ ghost use Rattle.wiretap.specs.Moves.{IsRunning, EndsOne, Moves, Ends, ReadsAll,
 use crate::fault::TapFault;
 use crate::marks::Marks;
 use crate::taps::Taps;
-use engine::script_reader::split_line;
 use engine::{LineRunner, Mode, RunFault, ScriptReader};
+use lines::Lines;
 use std::alloc::Global;
 use std::io::{Read, Write};
 
@@ -88,13 +88,10 @@ fn run_lines<W: Write, T: Write + Drop>(
     ensures runs { OnOk result (IsRunning script.new.work) }
     ensures number { OnOk result (script.new.number ≤ script.old.number + length bytes.now) }
 {
-    let mut rest = bytes;
-    while let Some((front, _)) = split_line(rest) {
-        let (line, behind) = rest.split_at(front.len() + 1);
-        run_bytes(writer, taps, script, line)?;
-        rest = behind;
+    for line in Lines::new(bytes) {
+        run_bytes(writer, taps, script, line.whole)?;
     }
-    run_bytes(writer, taps, script, rest)
+    Ok(())
 }
 
 /// Takes bytes in which at most one line ends, with the last of them, and does it.

@@ -3,24 +3,13 @@ use Rattle.std.proofs.Common.{List}
 use Rattle.mig_base.specs.declared.schedule.Step.{Step}
 use Rattle.mig_model.specs.Migration.{World, after_steps}
 use Rattle.mig_model.specs.Promises.{IsComplete, IsReached}
-use Rattle.mig_model.proofs.invariant.DestinationAct.{install_put_next}
 use Rattle.mig_model.proofs.steps.EveryStep.{complete-after_steps, kept-after_steps, kept-reached, urgent-reached}
 use Rattle.mig_model.proofs.transcript.PromiseLemmas.{are_paired, are_under_way, is_alone, is_precopying, is_receiving, is_switching}
-use Rattle.mig_model.proofs.owed.SettledPromises.{settled_call, settled_dropped, settled_else, settled_install}
-use Rattle.mig_model.proofs.steps.StepPromises.{destination_zeroed, source_zeroed}
 use Rattle.mig_model.proofs.completion.ViewPromises.{phase_complete}
-use Rattle.mig_model.proofs.transcript.WaitingAccesses.{are_accesses}
-use Rattle.world.specs.Headline.{Headline, InstallsNothingOver, IsMoved, SettlesRight}
+use Rattle.mig_model.proofs.transcript.WorldLaws.{installs_nothing_over, settles_right}
+use Rattle.world.specs.Headline.{Headline, IsMoved}
 use Rattle.world.specs.Worlds.{IsWorld}
 use Rattle.world.proofs.CoreLemmas.{core_reached}
-
-installs : (world : World) → IsReached world → InstallsNothingOver world
-installs world reached =
-    record {
-      copy = λ addr source h. install_put_next world addr source (kept-reached world reached) h;
-      source_zero = λ addr h. source_zeroed world addr h;
-      destination_zero = λ addr h. destination_zeroed world addr h;
-    }
 
 moved : (world : World) → IsReached world → IsComplete world → IsMoved world
 moved world reached done =
@@ -33,25 +22,16 @@ moved world reached done =
           (still, is_alone (after_steps world steps) (kept-after_steps world steps kept urgent) still);
     }
 
-settles : (world : World) → IsReached world → SettlesRight world
-settles world reached =
-    record {
-      call = λ cpu command page ran is ok. settled_call world cpu command (kept-reached world reached) ran is page ok;
-      install = λ addr source page h. settled_install world addr source h page;
-      dropped = λ source page h. settled_dropped world source page h;
-      others = λ step page ran leaves. settled_else world step (kept-reached world reached) (are_accesses world reached) ran leaves page;
-    }
-
 pub headline_reached : (world : World) → IsReached world → Headline world
 headline_reached world reached =
     let kept = kept-reached world reached in
     record {
       reached = reached;
       core = core_reached world reached;
-      installs = installs world reached;
+      installs = installs_nothing_over world reached;
       complete = λ h. moved world reached ((phase_complete world).0 h);
       current = kept.memory.holds;
-      settles = settles world reached;
+      settles = settles_right world reached;
       under_way = λ ran. are_under_way world kept (urgent-reached world reached) ran;
       urgent = (urgent-reached world reached).faithful;
       packaged = λ up stopped ran. is_switching world kept up stopped ran;

@@ -1,6 +1,6 @@
 //! The parts of a world, and their steps.
 
-ghost use Rattle.std.specs.Prelude.{◌≡◌, IfOk};
+ghost use Rattle.std.specs.Prelude.{◌≡◌, ◌↔◌, true, IfOk};
 ghost use Rattle.mig_model.specs.Migration.{guest_of, runs};
 ghost use Rattle.mig_model.specs.Runs.{Happens};
 ghost use Rattle.world.specs.Worlds.{IsWorld, world_of};
@@ -90,6 +90,19 @@ impl Parts {
         })
     }
 
+    /// Whether both are the parts of the same world.
+    pub(crate) fn is_same(&self, other: &Self) -> bool
+        ensures { (result ≡ true) ↔ (world_of self.now ≡ world_of other.now) }
+    {
+        self.up == other.up
+            && self.forward.is_same(&other.forward)
+            && self.back.is_same(&other.back)
+            && self.urgent.is_same(&other.urgent)
+            && are_same_entries(&self.transcript, &other.transcript)
+            && self.source.is_same(&other.source)
+            && self.destination.is_same(&other.destination)
+    }
+
     /// The processors of the guest: at the destination once that has run, and at the source before.
     pub(crate) fn cpus(&self) -> &Cpus
         ensures { result.now ≡ (guest_of (world_of self.now)).cpus }
@@ -107,4 +120,11 @@ impl Parts {
     {
         !self.source.has_switched() || self.destination.has_run()
     }
+}
+
+/// Whether two transcripts have the same entries.
+fn are_same_entries(entries: &Vec<Entry>, others: &Vec<Entry>) -> bool
+    ensures { (result ≡ true) ↔ (entries.now.items ≡ others.now.items) }
+{
+    entries == others
 }

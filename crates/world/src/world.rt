@@ -112,6 +112,16 @@ impl World {
         })
     }
 
+    /// Whether two worlds are the same: their nodes, the frames in flight with the bytes of the first that have come, the link, and the
+    /// transcripts. From then on the same steps have the same outcomes in both, memory aside. How a world came about does not count, nor
+    /// does its room: two schedules that lead to one state give the same world. It changes nothing and takes no memory. The time grows with
+    /// all that the worlds hold.
+    pub fn is_same(&self, other: &World) -> bool
+        ensures { (result ≡ true) ↔ (self.now ≡ other.now) }
+    {
+        self.parts.is_same(&other.parts)
+    }
+
     /// Makes one step, and returns its effect. A step that is refused changes nothing, and may be made again. If several refusals apply,
     /// the first in the order of [`Refusal`] counts. `NoMemory` comes after all others, with one exception: a Deliver whose frame would
     /// have to wait may return it. Break, Notice and Serve never return it.

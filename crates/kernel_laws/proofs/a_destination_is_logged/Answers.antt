@@ -3,7 +3,7 @@ use Rattle.kernel_laws.proofs.DestinationRuns.{steps-logged}
 use Rattle.kernel_laws.proofs.a_destination_is_logged.Goals as goal
 
 pub returns-clause-steps : goal.returns-clause-steps
-returns-clause-steps c at key steps none = steps-logged at key steps none
+returns-clause-steps c at key steps followed = steps-logged at key steps followed
 
 pub returns-clause-whole : goal.returns-clause-whole
-returns-clause-whole c it steps none = has-log it steps none
+returns-clause-whole c it steps followed = has-log it steps followed

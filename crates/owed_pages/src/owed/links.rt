@@ -3,14 +3,15 @@
 //! `specs/Owed.antt` says when both tables have the same pairs (`AreLinks`). So the contracts here mention only the origins of
 //! pages.
 
-ghost use Rattle.std.specs.Prelude.{◌≡◌, ◌≢◌, ℕ, ◌+◌, ◌<◌, ◌≤◌, ◌⊎◌, true, nat_eq, if◌then◌else◌, Some, None, OnOk, OnErr, IfOk};
+ghost use Rattle.std.specs.Prelude.{◌≡◌, ◌≢◌, ◌↔◌, ℕ, ◌+◌, ◌<◌, ◌≤◌, ◌⊎◌, true, nat_eq, if◌then◌else◌, Some, None, OnOk, OnErr, IfOk};
 ghost use Rattle.mig_base.specs.Ranges.{in_range};
 ghost use Rattle.mig_base.specs.declared.TheConstants.{HIGH_PAGE};
 ghost use Rattle.owed_pages.specs.Tables.{page_number, has_place, moved_number};
 ghost use Rattle.owed_pages.specs.Owed.{AreLinks, HasRoom};
 
 use crate::owed::table::{
-    Place, copy_places, get_number, has_leaf, make_leaf, make_leaves, next_leaf, put_number,
+    Place, copy_places, get_number, has_leaf, have_same_numbers, make_leaf, make_leaves, next_leaf,
+    put_number,
 };
 use mig_base::{NoMemory, PageNo};
 use std::alloc::Global;
@@ -50,6 +51,14 @@ impl Links {
             back: copy_places(alloc, &self.back)?,
             count: self.count,
         })
+    }
+
+    /// Whether the pairs are the same.
+    pub fn is_same(&self, other: &Self) -> bool
+        ensures { (result ≡ true) ↔ ((q : ℕ) →
+            page_number self.now.forth.items q ≡ page_number other.now.forth.items q) }
+    {
+        have_same_numbers(&self.forth, &other.forth)
     }
 
     /// Removes the pair of a page, if there is one.

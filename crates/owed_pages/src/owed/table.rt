@@ -1,6 +1,6 @@
 //! A number, or none, for each page: places for 1024 numbers each, made when one of them is first put.
 
-ghost use Rattle.std.specs.Prelude.{◌≡◌, ℕ, ◌+◌, ◌/◌, ◌<◌, ◌≤◌, ◌&&◌, true, nat_eq, nat_lt, if◌then◌else◌, None, OnOk, IfOk, is_some, length, slice_index_or};
+ghost use Rattle.std.specs.Prelude.{◌≡◌, ◌↔◌, ℕ, ◌+◌, ◌/◌, ◌<◌, ◌≤◌, ◌&&◌, true, nat_eq, nat_lt, if◌then◌else◌, None, OnOk, IfOk, is_some, length, slice_index_or};
 ghost use Rattle.std.specs.FinSet.{contains};
 ghost use Rattle.mig_base.specs.declared.TheConstants.{HIGH_PAGE};
 ghost use Rattle.mig_base.specs.declared.chunk.TheConstants.{CHUNK, CHUNKS};
@@ -103,6 +103,38 @@ pub fn get_number(places: &Vec<Place>, page: PageNo) -> Option<PageNo>
     } else {
         None
     }
+}
+
+/// Whether each page has the same number, or none, in both tables. Leaves that both miss are skipped.
+pub fn have_same_numbers(places: &Vec<Place>, others: &Vec<Place>) -> bool
+    requires { (length places.now.items ≤ CHUNKS) × (length others.now.items ≤ CHUNKS) }
+    ensures { (result ≡ true) ↔ ((q : ℕ) →
+        page_number places.now.items q ≡ page_number others.now.items q) }
+{
+    let end = places.len().max(others.len()) as u32 * CHUNK;
+    let mut page = 0;
+    while page < end {
+        let next = next_leaf(page, end);
+        let has_one = has_leaf(places, page) || has_leaf(others, page);
+        if has_one && !are_same_in(places, others, page, next) {
+            return false;
+        }
+        page = next;
+    }
+    true
+}
+
+/// Whether each page from `first` up to, but not including, `end` has the same number, or none, in both tables.
+fn are_same_in(places: &Vec<Place>, others: &Vec<Place>, first: PageNo, end: PageNo) -> bool
+    ensures { (result ≡ true) ↔ ((q : ℕ) → first ≤ q → q < end →
+        page_number places.now.items q ≡ page_number others.now.items q) }
+{
+    for page in first..end {
+        if get_number(places, page) != get_number(others, page) {
+            return false;
+        }
+    }
+    true
 }
 
 /// Whether there is a leaf for a page. If not, none of its 1024 pages has a number.

@@ -1,5 +1,7 @@
 //! Calls that copy or close descriptors.
 
+ghost use Rattle.std.specs.Prelude.{◌≡◌, None, IfOk};
+
 use super::Converter;
 use crate::files::{Held, On};
 use crate::number::{descriptor, number};
@@ -195,8 +197,10 @@ impl Converter {
         }
     }
 
-    /// A descriptor of another process is copied.
-    pub(super) fn plan_pidfd_getfd(&mut self, call: &Traced) -> Result<Option<Plan>, Stop> {
+    /// A descriptor of another process is copied, not a call of a log.
+    pub(super) fn plan_pidfd_getfd(&mut self, call: &Traced) -> Result<Option<Plan>, Stop>
+        ensures silent { IfOk result (λ plan. plan ≡ None) }
+    {
         if call.returned.ends_with(b"<anon_inode:[userfaultfd]>") {
             self.object_at(call.left_at, call.thread, &call.returned)?;
         }

@@ -139,6 +139,7 @@ impl Converter {
             After::BindIn { set, held } => self.bind(time, thread, *set, &[*held]),
             After::Release { set, on } => self.release(thread, *set, *on),
             After::Start(words) => self.start(time, thread, words.as_str()),
+            After::Receive => self.receive(call),
         }
     }
 }

@@ -1,5 +1,7 @@
 //! Threads, the processes of which they are, and the programs that these run.
 
+ghost use Rattle.std.specs.Prelude.{◌≡◌, None, IfOk, IfSome};
+
 use super::{Converter, Maker, Range};
 use crate::files::Files;
 use crate::kind::Kind;
@@ -211,8 +213,10 @@ impl Converter {
         Ok(Some(Plan::new(self.alloc, begin, end, After::Nothing)))
     }
 
-    /// A program that is run.
-    pub(super) fn plan_execve(&mut self, call: &Traced) -> Result<Option<Plan>, Stop> {
+    /// A program that is run, not a call of a log.
+    pub(super) fn plan_execve(&mut self, call: &Traced) -> Result<Option<Plan>, Stop>
+        ensures silent { IfOk result (λ plan. IfSome plan (λ plan. plan.begin ≡ None)) }
+    {
         if !call.has_succeeded() {
             return Ok(None);
         }

@@ -1,4 +1,6 @@
-use Rattle.mig_model.specs.Migration.{after_steps}
+use Rattle.std.proofs.Common.{IsOk, subst, sym}
+use Rattle.mig_model.specs.Migration.{after_steps, next, outcome}
+use Rattle.mig_model.specs.Promises.{IsComplete}
 use Rattle.mig_model.proofs.steps.EveryStep.{kept-reached, urgent-reached, kept-after_steps, complete-after_steps}
 use Rattle.mig_model.proofs.delivery.WirePromises.{completes_by, completes_only}
 use Rattle.mig_model.proofs.transcript.PromiseLemmas.{is_alone}
@@ -15,7 +17,8 @@ returns-clause-stays c world steps reached done =
     (still, is_alone (after_steps world steps) (kept-after_steps world steps kept urgent) still)
 
 pub returns-clause-taken : goal.returns-clause-taken
-returns-clause-taken c world n sent rest ok first full last = completes_by world n sent rest ok first full last
+returns-clause-taken c world step ok done =
+    subst (λ it. IsOk (outcome world it) → IsComplete (next world it)) (sym done.step_is) (λ accepted. completes_by world done.n done.sent done.rest accepted done.first done.full done.last) ok
 
 pub returns-clause-only : goal.returns-clause-only
 returns-clause-only c world step not done = completes_only world step not done

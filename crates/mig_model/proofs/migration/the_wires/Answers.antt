@@ -11,7 +11,9 @@ pub returns-clause-urgent : goal.returns-clause-urgent
 returns-clause-urgent c world step keeps = urgent_grows world step keeps
 
 pub returns-clause-broken : goal.returns-clause-broken
-returns-clause-broken c world ok = wires_broken world ok
+returns-clause-broken c world ok =
+    let are = wires_broken world ok in
+    record { forward = are.0; back = are.1; urgent = are.2; up = are.3 }
 
 pub returns-clause-up : goal.returns-clause-up
 returns-clause-up c world step other up = stays_up world step other up

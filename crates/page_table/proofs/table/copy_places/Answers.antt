@@ -1,4 +1,4 @@
-use Rattle.std.proofs.Common.{◌≡◌, ◌∙◌, ap, arith, length, length-append}
+use Rattle.std.proofs.Common.{◌∙◌, ap, arith, length, length-append}
 use Rattle.page_table.specs.Leaves.{cell_in}
 use Rattle.page_table.proofs.TableLemmas.{copied_more, copied_all}
 use Rattle.mig_base.proofs.PlaceLemmas.{read_place}
@@ -14,5 +14,4 @@ loop-at-preserved c = record {
 
 pub returns-clause-same : goal.returns-clause-same
 returns-clause-same c =
-    let size : length c.loop-at.copies.items ≡ length c.args.places.now.items = omega arith in
-    copied_all c.args.places.now.items c.loop-at.copies.items size (λ k l. c.loop-at.invariant.same k (omega arith))
+    copied_all c.args.places.now.items c.loop-at.copies.items (length c.args.places.now.items) (omega arith) (omega arith) (λ k l. c.loop-at.invariant.same k (omega arith))
