@@ -182,14 +182,16 @@ def event_of_another_range(calls, rng):
 
 
 def map_call_for_ever(calls, rng):
-    """Nobody reads its event."""
-    read = rng.choice(event_reads(calls, "remove"))
-    start = read.messages[0][1]["START"]
+    """Nobody reads its event. Its page was put before: another one may be taken back, since an earlier MADV_FREE."""
+    put = {start(it): it.end for it in reversed(installs(calls))}
+    reads = [it for it in event_reads(calls, "remove") if put.get(it.messages[0][1]["START"], it.begin) < it.begin]
+    read = rng.choice(reads)
+    first = read.messages[0][1]["START"]
     calls.remove(read)
     call = next(
         it
         for it in calls
-        if it.word == "madvise" and it.arguments["ADDRESS"] == start and it.begin < read.end < it.end + 1000
+        if it.word == "madvise" and it.arguments["ADDRESS"] == first and it.begin < read.end < it.end + 1000
     )
     call.end, call.answer = None, None
 

@@ -7,13 +7,10 @@ python3 bench/compare/logs.py [SEEDS] [--first SEED] [--profile P ..] [--source]
 model's answers: the object's first calls, and then one call at a time; between them are the map calls of its guest,
 each of which ends when its last message is read. It must be certified, whatever is found of the handler, which a
 script may end in its middle, and differ from the model as kernel_laws says alone. The scripts are those of `postmig
-explore`, SEEDS of each profile (20), with no map calls but mmap and munmap from `start` on: so far
-kernel_laws::a_destination_is_logged reaches. --source: logs of the source too, which names no thread, as a handler
-without UFFD_FEATURE_THREAD_ID (a processor of the model may have two faults unread, a thread of a kernel one).
-
-By kernel_laws each log has a run, but not all are certified: the search finds none for a fault that is read after a
-map call took its page away, or whose page lost its protection, nor where a map call makes pages anew that another one,
-which is still under way, has unmapped. These logs are counted, and no others may lack a run.
+explore`, SEEDS of each profile (20), without what kernel_laws::a_destination_is_logged leaves out from `start` on:
+mremap, a dontneed past the model's last address, and, until a dontneed returns, accesses to its pages and other map
+calls with a message. --source: logs of the source too, which names no thread, as a handler without
+UFFD_FEATURE_THREAD_ID (a processor of the model may have two faults unread, a thread of a kernel one).
 
 It is printed how many logs have a run with each difference, which would fail if it were left out. Where a node has no
 such log, its difference is not needed, which fails too. The status is 3 where anything is not as it should be, and 6
@@ -42,16 +39,14 @@ OFFER, CALLS = "0x14d 0x8000000000000003", {"1": "0x13c", "3": "0x17c"}
 FEATURES = {"source": "0x4d", "dest": "0x4c"}
 OBJECT, BUFFER = "1:5", 0x7F0000000000
 MAP_CALL = re.compile(r"cpu (\d+) ((mmap|munmap|mremap|dontneed)\b.*)")
-FOLLOWED = ("mmap", "munmap")
+# Where the model's addresses end.
+HIGH = 1 << 32
 # The words of a script for a protection and a place, with what mmap(2) has for them.
 PROTECTIONS, PLACES = {"none": 0, "r": 1, "rw": 3}, {"": 0x22, "fixed": 0x32, "noreplace": 0x100022}
 # The status of a log that has nothing to judge: no message was read, and no page was put.
 NOTHING = 6
 # How the run of a log may differ from the model: kernel_laws, `is_late`.
 MAY_DIFFER = {"fault-on-its-way"}
-# What is counted of logs that the search does not find.
-NOT_FOUND = "logs for which no run was found"
-UNEXPLAINED = re.compile(r"^-:\d+: unexplained: (.*)$", re.M)
 DIFFERENCE = re.compile(r"^otherwise than the model: ([a-z-]+) (\d+) ", re.M)
 
 
@@ -78,6 +73,8 @@ class Log:
         if name == "mmap":
             place, addr = [*words[2:], "", "0"][:2]
             words = [addr, words[0], str(PROTECTIONS[words[1]]), f"{PLACES[place]:#x}"]
+        elif name == "dontneed":
+            name, words = "madvise", [*words, "4"]
         self.made += 1
         self.line(f"begin {self.made} {name} {' '.join(words)}", int(cpu) + 2)
         self.calling[cpu] = self.made
@@ -156,46 +153,43 @@ def logs_of(script):
     return {node: HEAD + "\n".join(log.lines) + "\n" for node, log in logs.items() if log.lines}
 
 
-def without_moves(script):
-    """The lines but those with map calls other than mmap and munmap, from `start` on."""
-    start = script.index("start") if "start" in script else len(script)
-    called = [MAP_CALL.match(line) for line in script[start:]]
-    return script[:start] + [line for line, it in zip(script[start:], called) if not it or it[3] in FOLLOWED]
+def range_of(words):
+    """The pages of a dontneed, or the one of an access."""
+    first = int(words[1], 0) // PAGE
+    return range(first, first - -int(words[2], 0) // PAGE if words[0] == "dontneed" else first + 1)
 
 
-def is_late(lines, number):
-    """Whether a line of a log is the message of a fault whose page a map call has taken away, or, of a write-protect
-    fault, a call has unprotected."""
-    words = lines[number]
-    if words[3] != "message" or words[5] != "fault":
-        return False
-    addr, protected = int(words[6], 16), int(words[7]) >= 2
-    for words in reversed(lines[:number]):
-        name = words[5] if words[3:4] == ["begin"] else None
-        if name in FOLLOWED or protected and name == "writeprotect":
-            start, length = words[6:8] if name in FOLLOWED else words[7:9]
-            if 0 <= addr - int(start, 0) < -(-int(length) // PAGE) * PAGE:
-                return name in FOLLOWED or words[9] == "0"
-    return False
+def left_out(script):
+    """The lines, from `start` on, that the law leaves out, by what the model answers."""
+    ran = subprocess.run([POSTMIG, "run"], input="\n".join(script) + "\n", capture_output=True, text=True, check=True)
+    answers, numbers = ran.stdout.splitlines(), [n for n, line in enumerate(script) if line and line[0] != "#"]
+    found, last, clearing, started = set(), {}, {}, False
+    for number, answer in zip(numbers, answers):
+        words = script[number].split()
+        started |= answer.startswith("started")
+        command = words[2:] if words[0] == "cpu" else last.get(words[1], []) if words[0] == "retry" else []
+        if started and command:
+            is_access = command[0] in ("load", "store")
+            if command[0] == "mremap" or command[0] == "dontneed" and range_of(command).stop > HIGH // PAGE:
+                found.add(number)
+            elif is_access and any(range_of(command)[0] in it for it in clearing.values()):
+                found.add(number)
+            elif clearing and not is_access and " in call " in answer:
+                found.add(number)
+        if words[0] == "cpu" and answer.startswith(f"cpu {words[1]} "):
+            last[words[1]] = command
+            if started and command[0] == "dontneed" and " in call " in answer:
+                clearing[words[1]] = range_of(command)
+        for cpu in re.findall(r", cpu (\d+) ", answer):
+            clearing.pop(cpu, None)
+    return found
 
 
-def is_overlapped(lines, number):
-    """Whether a line of a log ends a map call while another one is under way."""
-    under_way = set()
-    for words in lines[:number]:
-        if words[3:4] == ["begin"] and words[5] in FOLLOWED:
-            under_way.add(words[4])
-        elif words[3:4] == ["end"]:
-            under_way.discard(words[4])
-    return lines[number][4] in under_way and len(under_way) > 1
-
-
-def are_known(log, said):
-    """Whether the answers for which the audit has found no run are of a kind that it does not find: those of reads,
-    whose message is the line before the end, or first that of a map call, after which others may follow."""
-    lines = [line.split() for line in log.splitlines()]
-    ends = [int(end) - 1 for answer in UNEXPLAINED.findall(said) for end in re.findall(r"at line (\d+)", answer)]
-    return bool(ends) and (is_overlapped(lines, min(ends)) or all(is_late(lines, end - 1) for end in ends))
+def followed(script):
+    """The lines but those that the law leaves out."""
+    while found := left_out(script):
+        script = [line for number, line in enumerate(script) if number not in found]
+    return script
 
 
 def judge(name, script, nodes, keep):
@@ -209,10 +203,8 @@ def judge(name, script, nodes, keep):
         if "\ncertified" in f"\n{ran.stdout}" and differs.keys() <= MAY_DIFFER:
             found[f"logs of {node}"] += 1
             found[f"calls of {node}"] += log.count(" begin ")
-            found[f"map calls of {node}"] += len(re.findall(r" begin \d+ m(?:un)?map ", log))
+            found[f"map calls of {node}"] += len(re.findall(r" begin \d+ (?:m(?:un)?map|madvise) ", log))
             found.update(f"with {name} at {node}" for name in differs)
-        elif are_known(log, ran.stdout):
-            found[NOT_FOUND] += 1
         elif ran.returncode != NOTHING:
             said = " | ".join(ran.stdout.splitlines()[-4:])
             wrong.append(f"{name}, {node}: status {ran.returncode}, {differs}, {said} {ran.stderr.strip()}")
@@ -236,7 +228,7 @@ def main():
         for seed in range(arguments.first, arguments.first + arguments.seeds):
             words = ["explore", "--profile", profile, "--seed", str(seed)]
             made = subprocess.run([POSTMIG, *words], capture_output=True, text=True, check=True)
-            scripts[f"{profile}-{seed}"] = without_moves(made.stdout.splitlines())
+            scripts[f"{profile}-{seed}"] = followed(made.stdout.splitlines())
     found, wrong = collections.Counter(), []
     with concurrent.futures.ThreadPoolExecutor(os.cpu_count()) as threads:
         for more, faults in threads.map(lambda one: judge(*one, nodes, arguments.keep), scripts.items()):

@@ -45,6 +45,8 @@ pub(crate) enum ThreadTask {
     WaitNoMore(Access),
     /// A thread leaves its fault, unless that was answered meanwhile.
     Leave(Fault),
+    /// The fault that a thread has left need not be answered: it has the same one again.
+    Forget(Fault),
     /// A thread sees its page, if it has not yet, and queues its fault.
     Touch(Access),
     /// The same, once its page may be missing.
@@ -86,6 +88,10 @@ impl Search {
             ThreadTask::LeaveUnread(fault) => self.leave_unread(fault),
             ThreadTask::WaitNoMore(access) => self.wait_no_more(access),
             ThreadTask::Leave(fault) => self.leave(fault),
+            ThreadTask::Forget(fault) => {
+                self.kernel.notes.forget_fault(fault);
+                Ok(())
+            }
             ThreadTask::Touch(access) => self.touch(access),
             ThreadTask::Queue(access) => {
                 self.touched = self.queue(access)?;
@@ -309,6 +315,9 @@ impl Search {
         };
         let is_elsewhere = held.page != access.page || held.object != access.object;
         if is_elsewhere || matches!(held.phase, Phase::Asleep) {
+            if !is_elsewhere {
+                self.plan_thread(ThreadTask::Forget(held))?;
+            }
             self.plan_thread(ThreadTask::Leave(held))?;
             self.plan(others(wakers_of(held)))?;
         }

@@ -79,15 +79,15 @@ fn is_followed(call: &LogCall) -> bool {
     is_api || call.answer.is_none() || call.has_effect()
 }
 
-/// The first call that is not followed, or else a read whose messages were not all taken at one time.
-fn not_followed(log: &Log, parted: Option<u32>) -> Option<Missing> {
+/// The first call that is not followed.
+fn not_followed(log: &Log) -> Option<Missing> {
     for place in 0..log.count() {
         let place = u32::try_from(place).ok()?;
         if !is_followed(&log.call(place)?) {
             return refused_call(log, place);
         }
     }
-    refused_call(log, parted?)
+    None
 }
 
 /// That the call at a place is not followed.
@@ -117,7 +117,7 @@ fn missing_of(judged: &Judged, entries: &EntryReader) -> Option<Missing>
     if size != PAGE_SIZE {
         return Some(Missing::PageSize(size));
     }
-    not_followed(&judged.log, judged.parted)
+    not_followed(&judged.log)
 }
 
 /// What the search found.

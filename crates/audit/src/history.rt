@@ -29,6 +29,7 @@ impl State {
             Presence::Unknown => 2,
             Presence::Missing => 4,
             Presence::Present => 6,
+            Presence::Poisoned => 8,
         };
         if page.guarded { rank + 1 } else { rank }
     }
@@ -43,6 +44,7 @@ impl fmt::Display for State {
             4 => "missing",
             5 => "missing, write-protected",
             6 => "present",
+            8 => "poisoned",
             _ => "present, write-protected",
         };
         write!(f, "{text}")
@@ -178,7 +180,9 @@ impl Search {
     /// The address space of a step that is of a page.
     fn space_of_step(&self, step: Move, asked: u64, fault: Option<Fault>) -> Option<u32> {
         match step {
-            Move::Sees { object, page, .. } if page == asked => self.kernel.space_of(object),
+            Move::Sees { object, page, .. } | Move::Drops { object, page } if page == asked => {
+                self.kernel.space_of(object)
+            }
             Move::Protects { key, page } if page == asked => {
                 self.kernel.space_of(self.log.call(key)?.object()?)
             }
@@ -287,6 +291,7 @@ fn name_of(step: Move) -> &'static str {
         Move::Queues { .. } => "the fault is queued",
         Move::Leaves { .. } => "the thread waits no more",
         Move::Clears { .. } => "the call clears it",
+        Move::Drops { .. } => "the kernel takes it back",
         _ => "the call protects it first",
     }
 }
@@ -363,8 +368,9 @@ fn case_of_step(
                 ..
             },
             _,
-        ) => (object, thread, flags),
-        (_, Some(fault)) => (fault.object, fault.thread, fault.flags),
+        ) => (object, named_thread(thread), Some(flags)),
+        (Move::Drops { object, .. }, _) => (object, None, None),
+        (_, Some(fault)) => (fault.object, named_thread(fault.thread), Some(fault.flags)),
         _ => return None,
     };
     Some(Case {
@@ -373,9 +379,9 @@ fn case_of_step(
         word,
         object: Some(object),
         process: happening.seen.space,
-        thread: named_thread(thread),
+        thread,
         range,
-        flags: Some(flags),
+        flags,
         since: None,
         until: None,
         reason: None,

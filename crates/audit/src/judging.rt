@@ -21,8 +21,6 @@ pub(crate) struct Judged {
     pub(crate) size: PageSize,
     pub(crate) notes: Notes,
     pub(crate) unexplained: Vec<Unexplained>,
-    /// A read whose messages were not all taken at one time, as in a run of the rules.
-    pub(crate) parted: Option<u32>,
     /// Why nothing of it could be judged.
     pub(crate) nothing: Option<Nothing>,
     /// The run that was found.
@@ -51,7 +49,6 @@ pub(crate) fn judge(alloc: Global, log: Log, page: Option<u64>) -> Result<Judged
         log,
         kernel,
         unexplained,
-        parted,
         run,
         history,
         ..
@@ -62,7 +59,6 @@ pub(crate) fn judge(alloc: Global, log: Log, page: Option<u64>) -> Result<Judged
         size,
         notes,
         unexplained,
-        parted,
         nothing,
         run,
         history,

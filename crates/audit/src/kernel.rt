@@ -3,7 +3,7 @@
 use crate::cases::{one_page, stopped_at};
 use crate::notes::{Again, Area, Notes, Slept, Stopped, Untold};
 use call_log::log::Log;
-use call_log::log_call::{DONTWAKE, LogCall, has_put};
+use call_log::log_call::{LogCall, has_put};
 use call_log::pages::Range;
 use indexmap::IndexSet;
 use kernel_rules::answers::is_clearing;
@@ -12,8 +12,6 @@ use kernel_rules::{Ending, Made, Move, Object, Page, Phase, Presence};
 use mig_base::NoMemory;
 use std::alloc::Global;
 use uffd_log::{Answer, Call, Descriptor, Errno, Message};
-
-const MADV_FREE: u64 = 8;
 
 /// O_NONBLOCK.
 const NONBLOCK: u64 = 0x800;
@@ -40,6 +38,8 @@ pub(crate) fn made_of(place: u32, call: &LogCall) -> Made {
     Made {
         key: place,
         space: call.space,
+        thread: call.thread,
+        program: call.program,
         call: call.call,
         last: call.last,
     }
@@ -67,22 +67,8 @@ pub(crate) fn ending_of(
 /// Whether the handler answers threads that sleep at the pages of a call.
 fn answers_threads(call: &LogCall) -> bool {
     match call.call {
-        Call::Copy { mode, .. } | Call::ZeroPage { mode, .. } => {
-            mode & DONTWAKE == 0 && has_put(call)
-        }
-        Call::WriteProtect { mode, .. } => mode == 0 && call.is_ok(),
-        Call::Wake { .. } => call.is_ok(),
-        _ => false,
-    }
-}
-
-/// Whether a call of which no rule speaks wakes those who sleep at its pages: bit 0 of its modes says that it wakes nobody.
-fn wakes_beyond_rules(call: &LogCall) -> bool {
-    match call.call {
-        Call::Move { mode, .. } | Call::Continue { mode, .. } | Call::Poison { mode, .. } => mode
-            & DONTWAKE
-            == 0,
-        _ => false,
+        Call::Unregister { .. } => false,
+        _ => call.is_waking(),
     }
 }
 
@@ -102,6 +88,8 @@ impl Kernel {
             let made = Made {
                 key: u32::MAX,
                 space: *space,
+                thread: 0,
+                program: 0,
                 call,
                 last: false,
             };
@@ -174,11 +162,16 @@ impl Kernel {
             Move::Leaves { thread } => self.rules.leaves(thread),
             Move::Tells { key } => self.rules.tells(u64::from(key)),
             Move::Clears { key } => self.clears(u64::from(key)),
+            Move::Drops { object, page } => self.rules.drops(object, page),
             Move::Protects { key, page } => match log.call(key) {
                 Some(call) => self.rules.protects_page(made_of(key, &call), page),
                 None => Ok(false),
             },
-            Move::Line | Move::Effect { .. } => Ok(false),
+            Move::Line
+            | Move::Effect { .. }
+            | Move::Refuses { .. }
+            | Move::Starts { .. }
+            | Move::Reads { .. } => Ok(false),
         }
     }
 
@@ -191,46 +184,76 @@ impl Kernel {
         self.rules.clears(key)
     }
 
-    /// A call of a log takes effect with its answer: a read with its messages but for the first ones, of which this number was taken before. False where
-    /// no rule allows it; then a part may be done.
-    pub(crate) fn take(
-        &mut self,
-        log: &Log,
-        place: u32,
-        call: &LogCall,
-        taken: u32,
-    ) -> Result<bool, NoMemory> {
+    /// A call of a log takes effect with its answer. False where no rule allows it; then a part may be done.
+    pub(crate) fn take(&mut self, log: &Log, place: u32, call: &LogCall) -> Result<bool, NoMemory> {
         let Some(answer) = call.answer else {
             return Ok(true);
         };
         self.resolved = self.shows_unknown(log, call);
-        let messages = log.messages_of(call).get(taken as usize..).unwrap_or(&[]);
-        let answer = match answer {
-            Answer::Value(count) => Answer::Value(count.saturating_sub(u64::from(taken))),
-            other => other,
-        };
-        let ending = ending_of(self.alloc, log, call, answer, messages)?;
+        let ending = ending_of(self.alloc, log, call, answer, log.messages_of(call))?;
         self.take_ending(log, place, call, &ending)
     }
 
-    /// The messages of a read from one place on to another are taken before its others. False where there is none, or no rule allows it; then some may be
-    /// taken.
-    pub(crate) fn take_part(
+    /// A call of a log is refused with EAGAIN, since the address space is changing. False where no rule allows it, and nothing is done then.
+    pub(crate) fn refuse(
         &mut self,
         log: &Log,
         place: u32,
         call: &LogCall,
-        taken: u32,
-        until: u32,
     ) -> Result<bool, NoMemory> {
-        let messages = log.messages_of(call);
-        let part = messages.get(taken as usize..until as usize).unwrap_or(&[]);
-        if part.is_empty() {
+        let (Some(answer), Some(range)) = (call.answer, log.pages_of(call)) else {
+            return Ok(false);
+        };
+        let ending = ending_of(self.alloc, log, call, answer, &[])?;
+        if !self.rules.refuses(made_of(place, call), &ending)? {
             return Ok(false);
         }
-        let answer = Answer::Value(part.len() as u64);
-        let ending = ending_of(self.alloc, log, call, answer, part)?;
-        self.take_ending(log, place, call, &ending)
+        if let Some(space) = call.object().and_then(|object| self.space_of(object)) {
+            self.note_refused(place, space, range)?;
+        }
+        Ok(true)
+    }
+
+    /// Notes that a call was refused with EAGAIN.
+    fn note_refused(&mut self, place: u32, space: u32, range: Range) -> Result<(), NoMemory> {
+        self.notes.note_tried(space, range);
+        self.notes.again.push(Again {
+            call: place,
+            space,
+            page: range.first,
+        })?;
+        Ok(())
+    }
+
+    /// Whether a read may take its messages one after another.
+    pub(crate) fn may_start(
+        &self,
+        log: &Log,
+        place: u32,
+        call: &LogCall,
+    ) -> Result<bool, NoMemory> {
+        let Some(answer) = call.answer else {
+            return Ok(false);
+        };
+        let ending = ending_of(self.alloc, log, call, answer, log.messages_of(call))?;
+        Ok(self.rules.may_start(made_of(place, call), &ending))
+    }
+
+    /// Such a read takes the message at a place. False where no rule allows it.
+    pub(crate) fn take_message(
+        &mut self,
+        log: &Log,
+        place: u32,
+        call: &LogCall,
+        at: u32,
+    ) -> Result<bool, NoMemory> {
+        let messages = log.messages_of(call);
+        let Some(answer) = call.answer else {
+            return Ok(false);
+        };
+        let left = messages.len().saturating_sub(at as usize);
+        let ending = ending_of(self.alloc, log, call, answer, messages)?;
+        self.rules.takes_next(made_of(place, call), left, &ending)
     }
 
     /// The same with an ending, which is noted.
@@ -418,8 +441,10 @@ impl Kernel {
     /// Notes which pages a call has tried to put, or was refused for, and which their owner gives back.
     fn note_range(&mut self, log: &Log, place: u32, call: &LogCall) -> Result<(), NoMemory> {
         if let Call::Madvise { advice, addr, len } = call.call {
-            let is_given = is_clearing(advice) || advice == MADV_FREE;
-            if is_given && call.answer.is_some() && !matches!(call.errno(), Some(Errno::Efault)) {
+            if is_clearing(advice)
+                && call.answer.is_some()
+                && !matches!(call.errno(), Some(Errno::Efault))
+            {
                 self.note_given_back(call.space, log.size.rounded(addr, len))?;
             }
             return Ok(());
@@ -430,15 +455,11 @@ impl Kernel {
         let (Some(space), true) = (self.space_of(object), call.install_mode().is_some()) else {
             return Ok(());
         };
+        if matches!(call.errno(), Some(Errno::Eagain)) && !has_put(call) {
+            return self.note_refused(place, space, range);
+        }
         if !matches!(call.errno(), Some(Errno::Einval)) {
             self.notes.note_tried(space, range);
-        }
-        if matches!(call.errno(), Some(Errno::Eagain)) && !has_put(call) {
-            self.notes.again.push(Again {
-                call: place,
-                space,
-                page: range.first,
-            })?;
         }
         Ok(())
     }
@@ -505,49 +526,6 @@ impl Kernel {
         for number in range.first..range.first.saturating_add(count) {
             if let Some(page) = self.page(space, number) {
                 let presence = Presence::Present;
-                let found = Some(Page { presence, ..page });
-                self.rules.assume(u64::from(space), number, found)?;
-            }
-        }
-        Ok(())
-    }
-
-    /// A call of which no rule speaks has changed its pages, and those that it has moved: nothing is known of them then. Those who sleep at its own
-    /// wake, unless it was to wake nobody.
-    pub(crate) fn believe(
-        &mut self,
-        log: &Log,
-        place: u32,
-        call: &LogCall,
-    ) -> Result<(), NoMemory> {
-        let (Some(object), Some((start, len))) = (call.object(), call.bytes()) else {
-            return Ok(());
-        };
-        let on = Descriptor { object, fd: 0 };
-        self.forget_presence(object, log.size.range(start, len))?;
-        if let Call::Move { from, .. } = call.call {
-            self.forget_presence(object, log.size.range(from, len))?;
-        }
-        if !wakes_beyond_rules(call) {
-            return Ok(());
-        }
-        let woken = LogCall {
-            call: Call::Wake { on, start, len },
-            ..*call
-        };
-        let ending = ending_of(self.alloc, log, call, Answer::Done, &[])?;
-        self.take_ending(log, place, &woken, &ending)?;
-        Ok(())
-    }
-
-    /// Nothing is known of the pages of a range.
-    fn forget_presence(&mut self, object: u64, range: Range) -> Result<(), NoMemory> {
-        let Some(space) = self.space_of(object) else {
-            return Ok(());
-        };
-        for number in range.first..range.end() {
-            if let Some(page) = self.page(space, number) {
-                let presence = Presence::Unknown;
                 let found = Some(Page { presence, ..page });
                 self.rules.assume(u64::from(space), number, found)?;
             }
@@ -665,15 +643,17 @@ fn forced_call(call: &LogCall) -> Option<LogCall> {
     })
 }
 
-/// The answer in place of one that no rule allows.
+/// The answer in place of one that no rule allows: a register returns the calls of its modes, WP is bit 1 and MINOR bit 2, among all others.
 fn forced_answer(call: &LogCall) -> Option<Answer> {
-    match call.answer? {
-        Answer::Features { .. } => Some(Answer::Features {
+    match (call.answer?, call.call) {
+        (Answer::Features { .. }, _) => Some(Answer::Features {
             features: u64::MAX,
             ioctls: u64::MAX,
         }),
-        Answer::Value(_) => Some(Answer::Value(u64::MAX)),
-        Answer::Opened(on) => Some(Answer::Opened(on)),
+        (Answer::Value(_), Call::Register { mode, .. }) => {
+            Some(Answer::Value(u64::MAX & !0xc0 | (mode / 2 % 4) << 6))
+        }
+        (Answer::Opened(on), _) => Some(Answer::Opened(on)),
         _ => None,
     }
 }
@@ -684,5 +664,6 @@ fn is_as(page: Page, presence: Presence) -> bool {
         Presence::Unknown => matches!(page.presence, Presence::Unknown),
         Presence::Missing => matches!(page.presence, Presence::Missing),
         Presence::Present => matches!(page.presence, Presence::Present),
+        Presence::Poisoned => matches!(page.presence, Presence::Poisoned),
     }
 }

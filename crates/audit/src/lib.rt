@@ -14,6 +14,7 @@ mod audit;
 mod cases;
 mod certificate;
 mod findings;
+mod foresight;
 mod history;
 mod judging;
 mod kernel;

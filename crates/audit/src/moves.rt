@@ -109,15 +109,15 @@ impl Moves {
         if self.at >= entries.len() {
             return None;
         }
-        self.pass_line(made.is_some());
+        if made.is_some() {
+            self.begun = self.begun.saturating_add(1);
+        }
+        self.pass_line();
         Some(Move::Line)
     }
 
-    /// The line of an entry of a call, which begins or ends there, is passed.
-    fn pass_line(&mut self, begins: bool) {
-        if begins {
-            self.begun = self.begun.saturating_add(1);
-        }
+    /// The line of an entry of a call is passed.
+    fn pass_line(&mut self) {
         self.at = self.at.saturating_add(1);
         self.lines = self.lines.saturating_add(1);
     }
@@ -153,29 +153,51 @@ impl Moves {
 
     /// The move of a step, with calls by their lines.
     fn move_of(&self, what: What) -> Option<Move> {
-        let What::Effect(place) = what else {
-            return Some(match self.run.unseen(what)? {
-                Move::Tells { key } => Move::Tells {
-                    key: self.begin_of(key)?,
-                },
-                Move::Clears { key } => Move::Clears {
-                    key: self.begin_of(key)?,
-                },
-                Move::Protects { key, page } => Move::Protects {
-                    key: self.begin_of(key)?,
-                    page,
-                },
-                other => other,
-            });
-        };
+        match what {
+            What::Effect(place) => {
+                let (key, at) = self.ending_of(place)?;
+                Some(Move::Effect { key, at })
+            }
+            What::Refuses(place) => {
+                let (key, at) = self.ending_of(place)?;
+                Some(Move::Refuses { key, at })
+            }
+            What::Starts(place) => {
+                let (key, at) = self.ending_of(place)?;
+                Some(Move::Starts { key, at })
+            }
+            What::Reads(place) => {
+                let (key, at) = self.ending_of(place)?;
+                Some(Move::Reads { key, at })
+            }
+            _ => self.move_of_unseen(what),
+        }
+    }
+
+    /// The line where a call begins, and the entry with its ending.
+    fn ending_of(&self, place: u32) -> Option<(u32, usize)> {
         let call = self.calls.get(place as usize)?;
         let at = match call.ending {
             Some(entry) => entry as usize,
             None => self.done,
         };
-        Some(Move::Effect {
-            key: call.begin,
-            at,
+        Some((call.begin, at))
+    }
+
+    /// The same of a step that no line shows.
+    fn move_of_unseen(&self, what: What) -> Option<Move> {
+        Some(match self.run.unseen(what)? {
+            Move::Tells { key } => Move::Tells {
+                key: self.begin_of(key)?,
+            },
+            Move::Clears { key } => Move::Clears {
+                key: self.begin_of(key)?,
+            },
+            Move::Protects { key, page } => Move::Protects {
+                key: self.begin_of(key)?,
+                page,
+            },
+            other => other,
         })
     }
 }

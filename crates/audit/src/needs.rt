@@ -2,12 +2,13 @@
 
 use crate::cases::one_page;
 use crate::polls::PROTECTED_STORE;
-use crate::search::index::message_of;
+use crate::search::index::{FaultRead, message_of};
+use crate::search::spans::At;
 use crate::search::{Open, Search};
 use crate::tellers::{changes, moves_to};
 use call_log::log_call::{COPY_PROTECTS, LogCall, PROTECTS, has_put, is_event};
 use call_log::pages::{PageSize, Range};
-use kernel_rules::fault::{is_protection, stops};
+use kernel_rules::fault::{find, is_protection, stops};
 use kernel_rules::{Fault, Phase};
 use uffd_log::{Call, Errno, Message};
 
@@ -34,7 +35,7 @@ pub(crate) enum Wanted {
         object: u64,
         range: Range,
     },
-    /// Reads that return a fault of an object which waits to be read.
+    /// Reads that return a fault of an object, or an event, which waits to be read.
     Waiting(u64),
     /// Reads that find nothing.
     Empty(u64),
@@ -105,6 +106,16 @@ pub(crate) enum Wanted {
         space: u32,
         range: Range,
     },
+    /// Those that put a page of an object, or take its protection away.
+    Bares {
+        object: u64,
+        page: u64,
+    },
+    /// Those that put pages of an address space, and end before this line, where the event of a map call is read: until then that forbids them.
+    PutUntil {
+        space: u32,
+        line: u32,
+    },
     /// Those that put a page which is cleared by a call that ends at this line, and is missing after it.
     PutBefore {
         space: u32,
@@ -135,7 +146,7 @@ fn protects_several(size: PageSize, call: &LogCall) -> bool {
 }
 
 /// Whether a call write-protects its pages.
-fn protects(call: &LogCall) -> bool {
+pub(crate) fn protects(call: &LogCall) -> bool {
     let protects = match call.call {
         Call::Copy { mode, .. } => mode & COPY_PROTECTS != 0,
         Call::WriteProtect { mode, .. } => mode == PROTECTS,
@@ -197,18 +208,36 @@ impl Search {
         protects(call) && is_there && !self.kernel.rules.has_protected(u64::from(place), page)
     }
 
-    /// Whether each fault of a write-protected page that a read returns waits already, or its page is protected.
+    /// Whether each fault that a read returns is of a thread that does not sleep there, and waits already, or its page is protected, if it is one of a
+    /// write-protected page.
     fn may_be_read(&self, object: u64, messages: &[Message]) -> bool {
         for message in messages {
-            if let Message::Fault { addr, flags, .. } = *message {
+            if let Message::Fault {
+                addr,
+                flags,
+                thread,
+            } = *message
+            {
                 let page = self.log.size.number(addr);
                 let is_early = is_protection(flags) && self.is_bare(object, page);
-                if is_early && !self.is_waiting(object, page, flags) {
+                let is_missed = is_early && !self.is_waiting(object, page, flags);
+                if is_missed || self.is_asleep(object, page, thread) {
                     return false;
                 }
             }
         }
         true
+    }
+
+    /// Whether a thread that the log names sleeps at a page.
+    fn is_asleep(&self, object: u64, page: u64, thread: u32) -> bool {
+        match find(self.kernel.rules.faults(), u64::from(thread)) {
+            Some(fault) => {
+                let is_there = fault.object == object && fault.page == page;
+                is_there && matches!(fault.phase, Phase::Asleep)
+            }
+            None => false,
+        }
     }
 
     /// The messages of an open call that are not taken.
@@ -241,6 +270,9 @@ impl Search {
                 let may_be = self.is_bare(object, page) && !protects_several(size, call);
                 may_be && self.may_protect(place, call, object, page)
             }
+            Wanted::Bares { object, page } => {
+                bares(call) && call.object() == Some(object) && call.covers(size, page)
+            }
             Wanted::Protected {
                 object,
                 range,
@@ -249,7 +281,7 @@ impl Search {
             } => self.is_bared_before(call, object, range, line, by),
             _ => match call.call {
                 Call::Read { .. } => self.is_wanted_read(wanted, call, self.rest_of(open, call)),
-                _ => self.is_wanted_install(wanted, call),
+                _ => self.is_wanted_install(wanted, place, call),
             },
         }
     }
@@ -277,6 +309,7 @@ impl Search {
                 self.kernel.space_of(object) == Some(space)
                     && self.has_fault(messages, range)
                     && !self.has_event_of(object, messages, by)
+                    && !self.needs_clearing(object, messages, range, by)
             }
             Wanted::Events => messages.iter().any(is_event),
             _ => false,
@@ -284,7 +317,7 @@ impl Search {
     }
 
     /// The same of one that puts pages.
-    fn is_wanted_install(&self, wanted: Wanted, call: &LogCall) -> bool {
+    fn is_wanted_install(&self, wanted: Wanted, place: u32, call: &LogCall) -> bool {
         let size = self.log.size;
         if call.install_mode().is_none() {
             return false;
@@ -297,8 +330,12 @@ impl Search {
                 call.object() == Some(object) && call.is_ok() && call.covers(size, page)
             }
             Wanted::PutIn { space, range } => self.is_put_in(call, space, range),
+            Wanted::PutUntil { space, line } => {
+                call.is_ok() && self.watches_space(call, space) && 0 < call.end && call.end < line
+            }
             Wanted::PutBefore { space, range, line } => {
-                self.is_put_in(call, space, range) && self.is_missing_after(call, space, line)
+                self.is_put_in(call, space, range)
+                    && self.is_missing_after(place, call, space, line)
             }
             _ => false,
         }
@@ -372,13 +409,14 @@ impl Search {
         })
     }
 
-    /// Whether one is a fault that waits to be read.
+    /// Whether one is a fault that waits to be read, or an event that may.
     fn has_waiting(&self, object: u64, messages: &[Message]) -> bool {
+        let has_unread = self.kernel.rules.has_unread(object);
         messages.iter().any(|message| match *message {
             Message::Fault { addr, flags, .. } => {
                 self.is_waiting(object, self.log.size.number(addr), flags)
             }
-            _ => false,
+            _ => has_unread && self.kernel.teller(object, *message).is_some(),
         })
     }
 
@@ -401,6 +439,25 @@ impl Search {
                 .any(|message| self.may_tell(&teller, object, *message)),
             None => false,
         }
+    }
+
+    /// Whether one is a fault of a page which is there until this call clears it.
+    fn needs_clearing(&self, object: u64, messages: &[Message], range: Range, by: u32) -> bool {
+        let (Some(space), Some(call)) = (self.kernel.space_of(object), self.log.call(by)) else {
+            return false;
+        };
+        let clears = matches!(call.call, Call::Madvise { .. });
+        clears
+            && messages.iter().any(|message| match *message {
+                Message::Fault { addr, flags, .. } => {
+                    let page = self.log.size.number(addr);
+                    let is_missing = !is_protection(flags) && range.contains(page);
+                    is_missing
+                        && self.is_there(space, page)
+                        && !self.is_waiting(object, page, flags)
+                }
+                _ => false,
+            })
     }
 
     /// Whether a call was refused with EAGAIN by an object which a map call has told.
@@ -452,14 +509,8 @@ impl Search {
 
     /// Whether the next fault of a page that is read after a line says that it is write-protected, if one is read.
     fn is_next_protected(&self, object: u64, page: u64, line: u32) -> Option<bool> {
-        let fault = self
-            .index
-            .faults
-            .get(self.index.first_fault(object, page, line))?;
-        if fault.object != object || fault.page != page {
-            return None;
-        }
-        match message_of(&self.log, *fault) {
+        let fault = self.next_fault(object, page, line)?;
+        match message_of(&self.log, fault) {
             Some(Message::Fault { flags, .. }) => Some(is_protection(flags)),
             _ => None,
         }
@@ -468,29 +519,46 @@ impl Search {
     /// Whether a call puts a page of a range that loses its registration, or its bytes, by another call: it may only have been put before.
     fn is_put_in(&self, call: &LogCall, space: u32, range: Range) -> bool {
         match self.first_page(call) {
-            Some((of, page)) => call.is_ok() && of == space && range.contains(page),
+            Some((of, page)) => has_put(call) && of == space && range.contains(page),
             None => false,
         }
     }
 
-    /// Whether the next fault of a call's page that is read after a line says that the page was missing, and nothing took it away meanwhile.
-    fn is_missing_after(&self, call: &LogCall, space: u32, line: u32) -> bool {
+    /// Whether the page of a call was missing after a line, by the next fault that is read or the next call that puts it, and nothing took it away
+    /// meanwhile.
+    fn is_missing_after(&self, place: u32, call: &LogCall, space: u32, line: u32) -> bool {
         let (Some(object), Some((_, page))) = (call.object(), self.first_page(call)) else {
             return false;
         };
-        let Some(fault) = self
-            .index
-            .faults
-            .get(self.index.first_fault(object, page, line))
-        else {
-            return false;
+        let at = At {
+            object,
+            space,
+            addr: self.log.size.address(page),
         };
-        let addr = self.log.size.address(page);
-        let is_same = matches!(self.is_next_protected(object, page, line), Some(false));
-        is_same
-            && !self
-                .index
-                .is_gone(space, addr, line.saturating_add(1), fault.end)
+        let from = line.saturating_add(1);
+        let fault = self.next_fault(object, page, line);
+        let put = self.index.next_put(place, object, page, line);
+        match (fault, put) {
+            (_, Some(put)) if fault.is_none_or(|fault| put.end < fault.end) => {
+                !self.index.is_cleared(at, from, put.end)
+            }
+            (Some(fault), _) => {
+                let is_missing = self.is_next_protected(object, page, line) == Some(false);
+                is_missing && !self.index.is_cleared(at, from, fault.end)
+            }
+            _ => false,
+        }
+    }
+
+    /// The next read of a fault of a page after a line.
+    fn next_fault(&self, object: u64, page: u64, line: u32) -> Option<FaultRead> {
+        let first = self.index.first_fault(object, page, line);
+        let fault = self.index.faults.get(first).copied()?;
+        if fault.object == object && fault.page == page {
+            Some(fault)
+        } else {
+            None
+        }
     }
 
     /// Whether a page is registered, and no store there finds it write-protected.

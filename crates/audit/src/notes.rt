@@ -79,7 +79,7 @@ pub(crate) struct Notes {
     /// The calls that stopped at a page which the log had put, and at another one that was there.
     pub(crate) twice: Vec<Stopped>,
     pub(crate) before: Vec<u64>,
-    /// The calls on pages that are not registered.
+    /// The calls on pages that were not registered before they began.
     pub(crate) outside: Vec<u64>,
     pub(crate) differs: Vec<Difference>,
 }
@@ -109,6 +109,12 @@ impl Notes {
         self.again.retain(|again| again.space != space || !range.contains(again.page));
     }
 
+    /// A thread has left its fault by a signal, and has the same one again: that is to be resolved.
+    pub(crate) fn forget_fault(&mut self, fault: Fault) {
+        self.unanswered.retain(|slept| slept.fault.thread != fault.thread
+            || Some(slept.read) != fault.read_by);
+    }
+
     /// Whether an event of a call was not read.
     pub(crate) fn is_untold(&self, call: u64) -> bool {
         self.untold.iter().any(|untold| untold.call == call)
@@ -117,7 +123,6 @@ impl Notes {
     /// Adds what a kernel has at the end of a log.
     pub(crate) fn add_last(&mut self, rules: &kernel_rules::Kernel) -> Result<(), NoMemory> {
         self.before.extend_from_slice(rules.there_before())?;
-        self.outside.extend_from_slice(rules.outside())?;
         self.differs.extend_from_slice(rules.differs())?;
         self.owed_count = rules.owed().len();
         for (place, (space, page)) in rules.owed().iter().enumerate() {

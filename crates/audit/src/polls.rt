@@ -6,7 +6,7 @@ use crate::needs::{Wanted, wakers_of};
 use crate::search::{Put, Search};
 use crate::tasks::{Task, others};
 use crate::threads::stranger;
-use call_log::log_call::{DONTWAKE, Kind, LogCall, POLLIN};
+use call_log::log_call::{DONTWAKE, Kind, LogCall, POLLIN, is_event};
 use call_log::pages::Range;
 use kernel_rules::fault::{find, stops};
 use kernel_rules::{Fault, Move, Phase};
@@ -16,10 +16,10 @@ use uffd_log::{Answer, Errno, Message};
 /// How many calls after a poll are looked at, and reads after a call.
 pub(crate) const NEAR: u32 = 200;
 
-/// UFFD_PAGEFAULT_FLAG_WP.
-const PROTECTED: u64 = 2;
+/// UFFD_PAGEFAULT_FLAG_MINOR.
+const MINOR: u64 = 4;
 
-/// The same, of a store.
+/// UFFD_PAGEFAULT_FLAG_WP and UFFD_PAGEFAULT_FLAG_WRITE.
 pub(crate) const PROTECTED_STORE: u64 = 3;
 
 /// What is to be done for a poll.
@@ -106,7 +106,14 @@ impl Search {
         let read = self.read_after(&call);
         let next = 0;
         self.plan_poll(PollTask::Vanish { poll, read, next })?;
-        self.plan_early(object, read, false)
+        match read {
+            Some(read) => self.plan_poll(PollTask::Early {
+                object,
+                read,
+                leaves: false,
+            }),
+            None => Ok(()),
+        }
     }
 
     /// Another thread's read has returned a message while the poll lasted: the poll took effect before that. Whether there is one.
@@ -123,18 +130,6 @@ impl Search {
         Ok(true)
     }
 
-    /// The first message of a read that succeeds waits already.
-    fn plan_early(&mut self, object: u64, read: Option<u32>, leaves: bool) -> Result<(), NoMemory> {
-        match read {
-            Some(read) => self.plan_poll(PollTask::Early {
-                object,
-                read,
-                leaves,
-            }),
-            None => Ok(()),
-        }
-    }
-
     /// The next read of a poll's object that has not taken effect. Where that found nothing, a read that lasts beside it may have returned the
     /// message before.
     fn read_after(&self, call: &LogCall) -> Option<u32> {
@@ -146,13 +141,24 @@ impl Search {
                 return None;
             }
             if let Some(call) = self.log.call(read.call) {
-                if !call.done {
+                if !call.done && !self.is_of_later(object, read.call) {
                     let beside = self.read_beside(&call, place.saturating_add(1));
                     return Some(beside.unwrap_or(read.call));
                 }
             }
         }
         None
+    }
+
+    /// Whether the first message of a read is an event of a map call that has not begun.
+    fn is_of_later(&self, object: u64, read: u32) -> bool {
+        match self.first_message(read) {
+            Some(message) if is_event(&message) => {
+                self.kernel.teller(object, message).is_none()
+                    && self.next_teller(object, message).is_none()
+            }
+            _ => false,
+        }
     }
 
     /// Where a read found nothing: another one, from this place of the index on, that returned a message and began before it ended.
@@ -283,17 +289,23 @@ impl Search {
     fn woken_first(&mut self, waker: u32, object: u64) -> Option<Access> {
         let call = self.log.call(waker)?;
         let (space, page) = self.first_page(&call)?;
-        let flags = if self.is_there(space, page) {
-            PROTECTED_STORE
-        } else {
-            0
-        };
         Some(Access {
             object,
             thread: self.stranger(),
             page,
-            flags,
+            flags: self.flags_at(space, page),
         })
+    }
+
+    /// The flags of a fault at a page: of a store where it is present, and else of a load.
+    fn flags_at(&self, space: u32, number: u64) -> u64 {
+        if self.is_there(space, number) {
+            return PROTECTED_STORE;
+        }
+        match self.kernel.page(space, number) {
+            Some(page) if page.minor && !page.missing => MINOR,
+            _ => 0,
+        }
     }
 
     fn stranger(&mut self) -> u64 {
@@ -307,9 +319,13 @@ impl Search {
             self.placed = Some(poll);
             return Ok(());
         }
-        match read.and_then(|read| self.first_message(read)) {
-            Some(_) => self.plan_early(object, read, true),
-            None => self.wait_unread(object),
+        match read {
+            Some(read) if self.first_message(read).is_some() => self.plan_poll(PollTask::Early {
+                object,
+                read,
+                leaves: true,
+            }),
+            _ => self.wait_unread(object),
         }
     }
 
@@ -326,8 +342,9 @@ impl Search {
                 return Ok(false);
             }
             if let Some(page) = self.woken_page(put.call, object) {
-                self.place_before(put, poll, object, page)?;
-                return Ok(true);
+                if self.place_before(put, poll, object, page)? {
+                    return Ok(true);
+                }
             }
         }
         Ok(false)
@@ -351,27 +368,36 @@ impl Search {
         }
     }
 
-    /// A poll takes effect before an install, when a thread has queued a fault of its page.
+    /// A poll takes effect before an install, when a thread has queued a fault of its page. False where none of it is announced.
     fn place_before(
         &mut self,
         put: Put,
         poll: u32,
         object: u64,
         page: u64,
-    ) -> Result<(), NoMemory> {
+    ) -> Result<bool, NoMemory> {
+        let found = match self.kernel.space_of(object) {
+            Some(space) => self.kernel.page(space, page),
+            None => None,
+        };
+        let flags = match found {
+            Some(found) if !found.missing && found.minor => MINOR,
+            Some(found) if !found.missing => return Ok(false),
+            _ => 0,
+        };
         let thread = self.stranger();
         let access = Access {
             object,
             thread,
             page,
-            flags: 0,
+            flags,
         };
         self.run.put_unseen_before(put.step, access.seen())?;
         self.run
             .put_unseen_before(put.step, Move::Queues { thread })?;
         self.run.put_effect_before(put.step, poll)?;
         self.set_kind(poll, Kind::Must);
-        Ok(())
+        Ok(true)
     }
 
     /// No read returns it: a thread waits at a page that is missing or protected, and its fault is unread to the end, or until a signal comes.
@@ -393,11 +419,7 @@ impl Search {
             let Some(page) = self.kernel.page(space, number) else {
                 continue;
             };
-            let flags = if self.is_there(space, number) {
-                PROTECTED
-            } else {
-                0
-            };
+            let flags = self.flags_at(space, number);
             if stops(object, flags, page) {
                 let access = Access {
                     object,

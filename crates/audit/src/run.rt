@@ -14,11 +14,15 @@ struct Sight {
     flags: u64,
 }
 
-/// A step of a run other than a line: the call at this place of the log takes effect, or something that no line shows, by its place in a list of
+/// A step of a run other than a line: the call at this place of the log takes effect, or is refused with EAGAIN, or takes its
+/// messages one after another; or something that no line shows, by its place in a list of
 /// the run.
 #[derive(Clone, Copy)]
 pub(crate) enum What {
     Effect(u32),
+    Refuses(u32),
+    Starts(u32),
+    Reads(u32),
     Sees(u32),
     Queues(u32),
     Leaves(u32),
@@ -73,14 +77,11 @@ impl Run {
         self.lines = self.lines.saturating_add(1);
     }
 
-    fn add(&mut self, what: What) -> Result<(), NoMemory> {
+    /// A step before the next line.
+    pub(crate) fn add(&mut self, what: What) -> Result<(), NoMemory> {
         let lines = self.lines;
         self.steps.push(Step { lines, what })?;
         Ok(())
-    }
-
-    pub(crate) fn add_effect(&mut self, call: u32) -> Result<(), NoMemory> {
-        self.add(What::Effect(call))
     }
 
     pub(crate) fn add_unseen(&mut self, unseen: Move) -> Result<(), NoMemory> {
@@ -125,7 +126,7 @@ impl Run {
     /// What a step does that no line shows. Calls are named by their places in the log.
     pub(crate) fn unseen(&self, what: What) -> Option<Move> {
         match what {
-            What::Effect(_) => None,
+            What::Effect(_) | What::Refuses(_) | What::Starts(_) | What::Reads(_) => None,
             What::Sees(place) => {
                 let Sight {
                     thread,

@@ -3,14 +3,16 @@
 //! Each call takes effect somewhere between its begin and its end: as late as that, unless another call's answer needs it earlier.
 
 pub(crate) mod index;
+pub(crate) mod spans;
 
 use crate::accesses::Shown;
 use crate::cases::one_page;
 use crate::history::{Doing, History};
 use crate::kernel::Kernel;
 use crate::needs::Wanted;
-use crate::run::Run;
+use crate::run::{Run, What};
 use crate::search::index::Index;
+use crate::search::spans::At;
 use crate::tasks::{Frame, Task, others};
 use call_log::log::Log;
 use call_log::log_call::{Kind, LogCall, has_put};
@@ -18,7 +20,7 @@ use indexmap::IndexMap;
 use kernel_rules::{Move, Presence};
 use mig_base::NoMemory;
 use std::alloc::Global;
-use uffd_log::Answer;
+use uffd_log::{Answer, Errno};
 
 /// A call that has begun and has not taken effect.
 #[derive(Clone, Copy)]
@@ -71,8 +73,6 @@ pub(crate) struct Search {
     pub(crate) unnamed: u64,
     pub(crate) strangers: u64,
     pub(crate) unexplained: Vec<Unexplained>,
-    /// The first read whose messages were not all taken at one time.
-    pub(crate) parted: Option<u32>,
     /// The line of the log that is looked at.
     pub(crate) line: u32,
     pub(crate) history: History,
@@ -100,7 +100,6 @@ impl Search {
             unnamed: 0,
             strangers: 0,
             unexplained: Vec::new(alloc),
-            parted: None,
             line: 0,
             history: History::new(alloc, page),
         })
@@ -164,9 +163,6 @@ impl Search {
         if call.has_effect() && !call.done {
             self.carry_out(Task::Settle(place))?;
         }
-        if call.is_beyond_rules() {
-            self.believe(place, &call)?;
-        }
         let key = u64::from(place);
         if !self.kernel.rules.is_told_all(key) {
             self.carry_out(others(Wanted::Events))?;
@@ -177,15 +173,6 @@ impl Search {
             self.step(Move::Clears { key: place })?;
         }
         self.end_telling(place)
-    }
-
-    /// A call has returned of which no rule speaks.
-    fn believe(&mut self, place: u32, call: &LogCall) -> Result<(), NoMemory> {
-        let seen = self.seen_by_call(call);
-        if has_put(call) {
-            self.kernel.believe(&self.log, place, call)?;
-        }
-        self.note_doing(Doing::Call(place), seen)
     }
 
     /// A call has returned. Where it is a map call that has told objects, it is the last moment for those which these refused with EAGAIN because of it.
@@ -236,19 +223,56 @@ impl Search {
             self.placed = None;
         } else {
             let seen = self.seen_by_call(&call);
-            self.judge(frame, &call)?;
-            self.run.add_effect(place)?;
+            match self.taken(place) {
+                0 => {
+                    let what = self.judge(frame, &call)?;
+                    self.run.add(what)?;
+                }
+                _ => self.take_rest(frame, &call)?,
+            }
             self.note_doing(Doing::Call(place), seen)?;
         }
         self.finish(place, &call, step)
     }
 
-    /// Judges the answer of a call, which takes effect.
-    fn judge(&mut self, frame: Frame, call: &LogCall) -> Result<(), NoMemory> {
-        let taken = self.taken(frame.call);
-        if self.kernel.take(&self.log, frame.call, call, taken)? {
+    /// The messages of a read are taken which are not yet.
+    fn take_rest(&mut self, frame: Frame, call: &LogCall) -> Result<(), NoMemory> {
+        let all = u32::try_from(self.log.messages_of(call).len()).unwrap_or(u32::MAX);
+        if self.taken(frame.call) == all || self.take_part(frame.call, all)? {
             self.note_kind(frame, call);
             return Ok(());
+        }
+        let reason = self.kernel.why(&self.log, call);
+        self.refuse(frame.call, reason)
+    }
+
+    /// Whether a call that says that it has put pages was refused with EAGAIN, and its field has what the program had there: one of these was there before.
+    pub(crate) fn is_refused(&self, call: &LogCall) -> bool {
+        let (Some(object), Some(put)) = (call.object(), call.done_pages(self.log.size)) else {
+            return false;
+        };
+        match self.kernel.space_of(object) {
+            Some(space) => {
+                call.errno() == Some(Errno::Eagain)
+                    && self.kernel.has(space, put, Presence::Present)
+            }
+            None => false,
+        }
+    }
+
+    /// Judges the answer of a call, which takes effect so.
+    fn judge(&mut self, frame: Frame, call: &LogCall) -> Result<What, NoMemory> {
+        if self.is_refused(call) && self.kernel.refuse(&self.log, frame.call, call)? {
+            self.note_kind(frame, call);
+            return Ok(What::Refuses(frame.call));
+        }
+        let outside = self.kernel.rules.outside().len();
+        if self.kernel.take(&self.log, frame.call, call)? {
+            if self.kernel.rules.outside().len() > outside && !self.is_overtaken(call) {
+                self.kernel.notes.outside.push(u64::from(frame.call))?;
+            }
+            self.note_kind(frame, call);
+            return Ok(What::Effect(frame.call));
         }
         let reason = if self.gave_up {
             "the search was given up"
@@ -256,7 +280,30 @@ impl Search {
             self.kernel.why(&self.log, call)
         };
         self.refuse(frame.call, reason)?;
-        self.kernel.force(&self.log, frame.call, call)
+        self.kernel.force(&self.log, frame.call, call)?;
+        Ok(What::Effect(frame.call))
+    }
+
+    /// Whether a page of a call may have lost its registration while the call lasted: its monitor could not know that.
+    fn is_overtaken(&self, call: &LogCall) -> bool {
+        let (Some(object), Some(range)) = (call.object(), self.log.pages_of(call)) else {
+            return false;
+        };
+        let Some(space) = self.kernel.space_of(object) else {
+            return false;
+        };
+        for number in range.first..range.end() {
+            let at = At {
+                object,
+                space,
+                addr: self.log.size.address(number),
+            };
+            let is_outside = self.kernel.page(space, number).is_none();
+            if is_outside && self.index.is_gone(at, call.begin, call.end) {
+                return true;
+            }
+        }
+        false
     }
 
     /// Notes how sure the answer of a call is, unless that is known.
@@ -298,18 +345,31 @@ impl Search {
         let Some(call) = self.log.call(read) else {
             return Ok(false);
         };
-        if !self.kernel.take_part(&self.log, read, &call, taken, until)? {
+        if taken >= until || !self.kernel.may_start(&self.log, read, &call)? {
             return Ok(false);
         }
-        for open in &mut self.open {
-            if open.call == read {
-                open.taken = until;
-            }
-        }
-        self.parted = self.parted.or(Some(read));
         let step = self.run.len()?;
+        if taken == 0 {
+            self.run.add(What::Starts(read))?;
+        }
+        for at in taken..until {
+            if !self.kernel.take_message(&self.log, read, &call, at)? {
+                return Ok(false);
+            }
+            self.run.add(What::Reads(read))?;
+            self.note_part(read, at.saturating_add(1));
+        }
         self.note_taken(&call, step)?;
         Ok(true)
+    }
+
+    /// How many messages of a read are taken.
+    fn note_part(&mut self, read: u32, taken: u32) {
+        for open in &mut self.open {
+            if open.call == read {
+                open.taken = taken;
+            }
+        }
     }
 
     /// A call has taken effect, by this step.

@@ -5,13 +5,11 @@ use crate::cases::one_page;
 use crate::needs::{Wanted, is_refused_for_now};
 use crate::polls::PollTask;
 use crate::search::Search;
-use crate::search::index::{FaultRead, message_of};
 use call_log::log_call::{LogCall, PROTECTS};
 use call_log::pages::Range;
-use kernel_rules::fault::{find, is_protection};
 use kernel_rules::{Move, Presence};
 use mig_base::NoMemory;
-use uffd_log::{Call, Errno, Message};
+use uffd_log::{Call, Errno};
 
 /// The most tasks for a call that ends: each open call takes effect once, and needs few for each of its pages and messages.
 const MOST_TASKS: u32 = 1 << 20;
@@ -50,7 +48,7 @@ pub(crate) enum Task {
     ReadEvents(u64),
     /// The map calls under way take effect, unless one has told the object.
     ChangeByAny(u64),
-    /// Threads saw the pages of an install missing whose faults are read after it.
+    /// Threads saw the pages of a call as they were before, whose faults are read after it.
     Foresee(u32),
     Thread(ThreadTask),
     Poll(PollTask),
@@ -142,16 +140,16 @@ impl Search {
         match call.call {
             Call::Mmap { .. } | Call::Munmap { .. } | Call::Mremap { .. } | Call::Madvise { .. } =>
                 self.prepare_map_call(place, call),
-            Call::Copy { .. } | Call::ZeroPage { .. } => {
-                self.plan(Task::Install(place))?;
-                self.plan_reads_before(call)
-            }
             Call::WriteProtect { mode, .. } => self.prepare_protect(place, call, mode),
             Call::Wake { .. } => self.plan_reads_of(call),
             Call::Unregister { .. } => self.prepare_unregister(call),
             Call::Close { on } if call.last => self.plan(others(Wanted::OfObject(on.object))),
             Call::Read { .. } => self.prepare_read(place, call),
             Call::Poll { .. } => self.plan(Task::Poll(PollTask::Look(place))),
+            _ if call.install_mode().is_some() => {
+                self.plan(Task::Install(place))?;
+                self.plan_reads_before(call)
+            }
             _ => Ok(()),
         }
     }
@@ -186,11 +184,18 @@ impl Search {
         };
         let space = call.space;
         let line = call.end;
+        if call.populates() {
+            return self.prepare_populate(space, range);
+        }
+        self.plan(Task::Foresee(place))?;
         if !matches!(call.call, Call::Madvise { .. }) {
             self.plan(others(Wanted::Protecting { space, range }))?;
             self.plan(others(Wanted::PutIn { space, range }))?;
         } else if line > 0 {
             self.plan(others(Wanted::PutBefore { space, range, line }))?;
+        }
+        if let Some(line) = self.told_from(call, range)? {
+            self.plan(others(Wanted::PutUntil { space, line }))?;
         }
         self.plan(others(Wanted::FaultsOfSpace {
             space,
@@ -200,6 +205,25 @@ impl Search {
         // Where it ends before its own event could be read it maps what another call has unmapped.
         if matches!(call.call, Call::Mmap { .. }) && line == self.line {
             self.plan(others(Wanted::Unregisters { space, range }))?;
+        }
+        Ok(())
+    }
+
+    /// The pages that a madvise touches are there, and nothing forbids it to.
+    fn prepare_populate(&mut self, space: u32, range: Range) -> Result<(), NoMemory> {
+        for area in &self.kernel.areas()? {
+            let object = area.object;
+            let pages = area.range.common(range);
+            if area.space != u64::from(space) {
+                continue;
+            }
+            for page in pages.first..pages.end() {
+                if self.kernel.has(space, one_page(page), Presence::Missing) {
+                    self.plan(others(Wanted::Installs { object, page }))?;
+                } else if !self.is_bare(object, page) {
+                    self.plan(others(Wanted::Bares { object, page }))?;
+                }
+            }
         }
         Ok(())
     }
@@ -228,6 +252,7 @@ impl Search {
             return Ok(());
         }
         if mode != PROTECTS {
+            self.plan(Task::Foresee(place))?;
             return self.plan_reads_of(call);
         }
         self.plan(others(Wanted::Protected {
@@ -238,7 +263,7 @@ impl Search {
         }))
     }
 
-    // UFFDIO_COPY and UFFDIO_ZEROPAGE
+    // UFFDIO_COPY, ZEROPAGE, CONTINUE, POISON and MOVE
 
     fn prepare_install(&mut self, place: u32) -> Result<(), NoMemory> {
         let Some(call) = self.log.call(place) else {
@@ -250,6 +275,7 @@ impl Search {
         match call.errno() {
             None => {
                 self.prepare_put(place, object, range)?;
+                self.make_source(&call, object)?;
                 self.make_registered(object, range)
             }
             Some(Errno::Eexist) => {
@@ -257,9 +283,9 @@ impl Search {
                 self.make_registered(object, one_page(range.first))
             }
             Some(Errno::Enoent) => self.make_unregistered(object, range),
-            Some(Errno::Eagain) => match call.woken(self.log.size) {
-                Some(put) => self.prepare_part(place, object, put),
-                None => self.make_changing(object),
+            Some(Errno::Eagain) => match call.done_pages(self.log.size) {
+                Some(put) if !self.is_refused(&call) => self.prepare_part(place, object, put),
+                _ => self.make_changing(object),
             },
             _ => Ok(()),
         }
@@ -295,6 +321,18 @@ impl Search {
         self.plan(Task::MakeMissing { space, range })
     }
 
+    /// The pages that UFFDIO_MOVE takes are put by calls that are under way, where they are missing.
+    fn make_source(&mut self, call: &LogCall, object: u64) -> Result<(), NoMemory> {
+        let Call::Move { from, len, .. } = call.call else {
+            return Ok(());
+        };
+        let range = self.log.size.range(from, len);
+        for page in range.first..range.end() {
+            self.make_there(object, page)?;
+        }
+        Ok(())
+    }
+
     /// The pages that a call has put before it stopped are missing, and registered.
     fn prepare_part(&mut self, place: u32, object: u64, put: Range) -> Result<(), NoMemory> {
         if let Some(space) = self.kernel.space_of(object) {
@@ -320,7 +358,7 @@ impl Search {
 
     fn make_missing(&mut self, space: u32, range: Range) -> Result<(), NoMemory> {
         for page in range.first..range.end() {
-            if self.is_there(space, page) {
+            if self.is_there(space, page) && !self.drop(space, page)? {
                 let first = page.saturating_add(1);
                 let count = range.end().saturating_sub(first);
                 self.plan(Task::MakeMissing {
@@ -333,6 +371,17 @@ impl Search {
             }
         }
         Ok(())
+    }
+
+    /// The kernel takes back a page, if MADV_FREE allows that. Whether it did.
+    fn drop(&mut self, space: u32, page: u64) -> Result<bool, NoMemory> {
+        match self.kernel.page(space, page) {
+            Some(found) if found.freed => {
+                let object = found.object;
+                self.step(Move::Drops { object, page })
+            }
+            _ => Ok(false),
+        }
     }
 
     fn make_protected(&mut self, object: u64, page: u64) -> Result<(), NoMemory> {
@@ -393,57 +442,5 @@ impl Search {
         } else {
             Ok(())
         }
-    }
-
-    fn foresee(&mut self, place: u32) -> Result<(), NoMemory> {
-        let Some(call) = self.log.call(place) else {
-            return Ok(());
-        };
-        let (Some(object), Some(range)) = (call.object(), self.log.pages_of(&call)) else {
-            return Ok(());
-        };
-        for number in range.first..range.end() {
-            self.foresee_page(&call, object, number)?;
-        }
-        Ok(())
-    }
-
-    /// A fault of the page that is read after it was put, while it stays: a thread has seen the page missing before.
-    fn foresee_page(&mut self, call: &LogCall, object: u64, number: u64) -> Result<(), NoMemory> {
-        let first = self.index.first_fault(object, number, self.line);
-        for place in first..self.index.faults.len() {
-            let Some(read) = self.index.faults.get(place).copied() else {
-                return Ok(());
-            };
-            if read.object != object || read.page != number || !self.foresee_read(call, read)? {
-                return Ok(());
-            }
-        }
-        Ok(())
-    }
-
-    /// The same of one read. Whether those after it are to be looked at.
-    fn foresee_read(&mut self, call: &LogCall, fault: FaultRead) -> Result<bool, NoMemory> {
-        let Some(read) = self.log.call(fault.call) else {
-            return Ok(false);
-        };
-        if read.done || read.begin < self.line {
-            return Ok(true);
-        }
-        let Some(space) = self.kernel.space_of(fault.object) else {
-            return Ok(false);
-        };
-        let addr = self.log.size.address(fault.page);
-        if self.index.is_gone(space, addr, call.begin, read.end) {
-            return Ok(false);
-        }
-        let Some(Message::Fault { flags, thread, .. }) = message_of(&self.log, fault) else {
-            return Ok(true);
-        };
-        let access = self.access_of(fault.object, addr, flags, thread, None);
-        if !is_protection(flags) && find(self.kernel.rules.faults(), access.thread).is_none() {
-            self.step(access.seen())?;
-        }
-        Ok(true)
     }
 }

@@ -89,21 +89,58 @@ impl Search {
     fn awaited(&self, object: u64) -> Option<u32> {
         let first = self.index.first_read(object, self.line);
         for place in first..first.saturating_add(NEAR as usize) {
-            let read = self.index.reads.get(place)?;
-            if read.object != object {
-                return None;
-            }
-            let call = self.log.call(read.call)?;
-            if call.done {
+            let read = self.read_at(object, place)?;
+            if read.done {
                 continue;
             }
-            for message in self.log.messages_of(&call) {
+            for message in self.log.messages_of(&read) {
                 if let Some(teller) = self.next_teller(object, *message) {
                     return Some(teller);
                 }
             }
         }
         None
+    }
+
+    /// The line where a read begins that returns an event of a map call, if one does soon.
+    pub(crate) fn told_from(&self, call: &LogCall, range: Range) -> Result<Option<u32>, NoMemory> {
+        for area in &self.kernel.areas()? {
+            let is_changed = area.space == u64::from(call.space)
+                && area.range.common(range).count > 0;
+            if is_changed {
+                if let Some(line) = self.told_to_from(call, area.object) {
+                    return Ok(Some(line));
+                }
+            }
+        }
+        Ok(None)
+    }
+
+    /// The same of an object.
+    pub(crate) fn told_to_from(&self, call: &LogCall, object: u64) -> Option<u32> {
+        let first = self.index.first_read(object, self.line);
+        for place in first..first.saturating_add(NEAR as usize) {
+            let read = self.read_at(object, place)?;
+            let messages = self.log.messages_of(&read);
+            if !read.done
+                && messages
+                    .iter()
+                    .any(|message| self.may_tell(call, object, *message))
+            {
+                return Some(read.begin);
+            }
+        }
+        None
+    }
+
+    /// The read at a place of the index, if it is of this object.
+    fn read_at(&self, object: u64, place: usize) -> Option<LogCall> {
+        let read = self.index.reads.get(place)?;
+        if read.object == object {
+            self.log.call(read.call)
+        } else {
+            None
+        }
     }
 
     /// Of the map calls under way that may tell an object this the one that ends first.

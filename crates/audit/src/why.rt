@@ -28,11 +28,10 @@ impl Kernel {
             Some(_) => {}
         }
         match call.call {
-            Call::Copy { .. } | Call::ZeroPage { .. } | Call::WriteProtect { .. } => {
-                self.why_pages(log, name, call)
-            }
+            Call::WriteProtect { .. } => self.why_pages(log, name, call),
             Call::Read { .. } => self.why_read(name, call.errno(), log.messages_of(call)),
             Call::Poll { .. } => why_poll(call.value()),
+            _ if call.install_mode().is_some() => self.why_pages(log, name, call),
             _ => NO_ANSWER,
         }
     }

@@ -33,14 +33,8 @@ fn has_object(call: &LogCall) -> bool {
 
 /// Whether a call has put a page, or has found it there.
 fn puts(call: &LogCall) -> bool {
-    match call.call {
-        Call::Copy { .. }
-        | Call::ZeroPage { .. }
-        | Call::Move { .. }
-        | Call::Continue { .. }
-        | Call::Poison { .. } => has_put(call) || call.errno() == Some(Errno::Eexist),
-        _ => false,
-    }
+    let has_met = has_put(call) || call.errno() == Some(Errno::Eexist);
+    call.install_mode().is_some() && has_met
 }
 
 /// Why nothing of a log could be judged, if that is so.

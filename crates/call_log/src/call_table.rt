@@ -15,9 +15,8 @@ pub(crate) struct CallPlace {
     until: u64,
     /// The entry where it begins.
     pub(crate) begin: u32,
-    /// The process and the thread that made it.
+    /// The process that made it.
     process: u32,
-    thread: u32,
     /// The entry where it ends; 0, where no call ends, if it never returned.
     end: u32,
     /// The number of the line where it ends; 0 if it never returned.
@@ -89,8 +88,9 @@ impl CallPlace {
             end: self.line,
             until: self.until,
             process: self.process,
-            thread: self.thread,
+            thread: made.thread,
             space: made.space,
+            program: made.program,
             ending,
             last: self.last,
             judged: self.judged,
@@ -123,7 +123,6 @@ impl CallTable {
             until: 0,
             begin: entry.unwrap_or(u32::MAX),
             process: stamp.pid,
-            thread: stamp.tid,
             end: 0,
             line: 0,
             last: false,

@@ -15,9 +15,6 @@ use std::alloc::Global;
 use std::rc::Rc;
 use uffd_log::{Answer, Call};
 
-/// UFFDIO_REGISTER_MODE_MINOR.
-const MINOR_MODE: u64 = 4;
-
 /// A log that was read: where its calls are among its entries, and these.
 #[derive(Drop)]
 pub struct ReadLog {
@@ -71,7 +68,7 @@ impl Met {
 struct Known {
     /// The ranges that were registered.
     ranges: IndexSet<Registered>,
-    /// The objects that the log has seen open, and those whose handshake it has, where the rules speak of their faults.
+    /// The objects that the log has seen open, and those whose handshake it has.
     opened: IndexSet<u64>,
     shaken: IndexSet<u64>,
     /// The objects that were open before the log begins, with the address space of the first call on each.
@@ -95,7 +92,6 @@ impl Known {
     /// What all calls of a log say.
     fn read(&mut self, table: &CallTable, entries: &EntryStore) -> Result<(), NoMemory> {
         self.add_all(table, entries)?;
-        self.leave_all_minor(table, entries);
         self.find_all(table, entries)
     }
 
@@ -107,15 +103,6 @@ impl Known {
             }
         }
         Ok(())
-    }
-
-    /// Takes away all objects that are registered for minor faults.
-    fn leave_all_minor(&mut self, table: &CallTable, entries: &EntryStore) {
-        for place in 0..table.places.len() {
-            if let Some(call) = table.call(entries, place) {
-                self.leave_minor(&call);
-            }
-        }
     }
 
     /// What one call says.
@@ -140,16 +127,6 @@ impl Known {
             _ => {}
         }
         Ok(())
-    }
-
-    /// Takes away an object that is registered for minor faults, of which no rule speaks.
-    fn leave_minor(&mut self, call: &LogCall) {
-        if let Call::Register { on, mode, .. } = call.call {
-            if mode & MINOR_MODE != 0 && call.is_ok() {
-                self.opened.swap_remove(&on.object);
-                self.shaken.swap_remove(&on.object);
-            }
-        }
     }
 
     /// The address space that a call changes. A process that the log has not seen begin may share that whose registered pages it meets, and
@@ -180,9 +157,6 @@ impl Known {
     /// Whether the rules speak of a call: not where the log has seen its object neither open nor make its handshake, or its address space is gone,
     /// and not where its range is too long. A map call takes no more pages away than there are, and only mremap makes any registered.
     fn is_judged(&self, table: &CallTable, call: &LogCall) -> bool {
-        if call.is_beyond_rules() {
-            return false;
-        }
         if call.is_map_call() {
             return match call.call {
                 Call::Mremap { new_len, .. } => {

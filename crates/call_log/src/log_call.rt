@@ -1,9 +1,10 @@
 //! A call of a log, with how it ended.
 
 use crate::pages::{PageSize, Range};
+use kernel_rules::answers::is_populating;
 use uffd_log::{Answer, Call, Errno, Message};
 
-/// UFFDIO_COPY_MODE_DONTWAKE and UFFDIO_ZEROPAGE_MODE_DONTWAKE.
+/// UFFDIO_COPY_MODE_DONTWAKE, and the same of the other calls that fill pages.
 pub const DONTWAKE: u64 = 1;
 
 /// UFFDIO_COPY_MODE_WP.
@@ -44,6 +45,8 @@ pub struct LogCall {
     pub thread: u32,
     /// The address space that it changes, by its process.
     pub space: u32,
+    /// The program that its process runs, as in its entry; 0 while it is read.
+    pub program: u32,
     /// The entry where it ends, which has its messages and its runs of pages; absent where it never returned.
     pub ending: Option<u32>,
     /// Of close: no descriptor of the object is left.
@@ -103,10 +106,12 @@ impl LogCall {
         }
     }
 
-    /// The word of modes of UFFDIO_COPY and UFFDIO_ZEROPAGE.
+    /// The word of modes of a call that fills pages: UFFDIO_COPY, ZEROPAGE, CONTINUE, POISON and MOVE.
     pub fn install_mode(&self) -> Option<u64> {
         match self.call {
             Call::Copy { mode, .. } | Call::ZeroPage { mode, .. } => Some(mode),
+            Call::Continue { mode, .. } | Call::Poison { mode, .. } => Some(mode),
+            Call::Move { mode, .. } => Some(mode),
             _ => None,
         }
     }
@@ -120,10 +125,10 @@ impl LogCall {
         }
     }
 
-    /// Whether no rule speaks of calls of its kind.
-    pub fn is_beyond_rules(&self) -> bool {
-        match self.call {
-            Call::Move { .. } | Call::Continue { .. } | Call::Poison { .. } => true,
+    /// Whether it is a madvise that has touched each page of its range.
+    pub fn populates(&self) -> bool {
+        match (self.call, self.answer) {
+            (Call::Madvise { advice, .. }, Some(answer)) => is_populating(advice, answer),
             _ => false,
         }
     }
@@ -156,24 +161,26 @@ impl LogCall {
     pub fn has_effect(&self) -> bool {
         match self.answer {
             Some(Answer::Interrupted) | None => false,
-            Some(_) => self.judged && !self.is_beyond_rules(),
+            Some(_) => self.judged,
         }
     }
 
     /// Whether it wakes threads that sleep at its pages: an install that stopped, at those that it has put.
     pub fn is_waking(&self) -> bool {
         let wakes = match self.call {
-            Call::Copy { mode, .. } | Call::ZeroPage { mode, .. } => mode & DONTWAKE == 0,
             Call::WriteProtect { mode, .. } => mode == 0,
             Call::Wake { .. } | Call::Unregister { .. } => true,
-            _ => false,
+            _ => match self.install_mode() {
+                Some(mode) => mode & DONTWAKE == 0,
+                None => false,
+            },
         };
         wakes && has_put(self)
     }
 
-    /// The pages at which it wakes threads, if it does.
-    pub fn woken(&self, size: PageSize) -> Option<Range> {
-        if !self.is_waking() {
+    /// The pages that it has changed, if it has any: of a call that stopped those before it did.
+    pub fn done_pages(&self, size: PageSize) -> Option<Range> {
+        if !has_put(self) {
             return None;
         }
         let (start, len) = self.bytes()?;
@@ -187,6 +194,15 @@ impl LogCall {
             _ => len,
         };
         Some(size.range(start, done))
+    }
+
+    /// The pages at which it wakes threads, if it does.
+    pub fn woken(&self, size: PageSize) -> Option<Range> {
+        if self.is_waking() {
+            self.done_pages(size)
+        } else {
+            None
+        }
     }
 
     /// Whether it wakes the threads that sleep at a page of an object.

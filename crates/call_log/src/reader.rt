@@ -272,6 +272,7 @@ impl CallReader {
             process: stamp.pid,
             thread: stamp.tid,
             space: stamp.pid,
+            program: 0,
             ending: self.entry,
             last: self.is_last(open.call),
             judged: false,

@@ -1,7 +1,7 @@
 -- A thread that makes an access: it finds its page missing or write-protected, or is answered.
 use Rattle.std.proofs.lemmas.Bool.Decides.{nat_tests}
 use Rattle.std.proofs.lemmas.Bool.{false≢true, not-true}
-use Rattle.std.proofs.Common.{◌≡◌, ℕ, ◌+◌, ◌*◌, ◌/◌, ◌%◌, ◌&&◌, ◌||◌, Bool, true, false, not, cond, eqb, Option, Some, None, [], ◌∷◌, ◌++◌, arith, refl, sym, ap, subst, ◌∙◌}
+use Rattle.std.proofs.Common.{◌≡◌, ℕ, ◌+◌, ◌*◌, ◌/◌, ◌%◌, ◌<◌, ◌&&◌, ◌||◌, Bool, true, false, not, cond, eqb, ltb, Option, Some, None, [], ◌∷◌, ◌++◌, arith, refl, sym, ap, subst, ◌∙◌}
 use Rattle.std.specs.FinMap.{contains_key}
 use Rattle.std.specs.FinSet.{contains}
 use Rattle.mig_base.specs.declared.command.Access.{Access}
@@ -24,10 +24,11 @@ use Rattle.mig_model.proofs.memory.Registering.{pages_again}
 use Rattle.kernel_rules.specs.declared.fault.Fault.{Fault}
 use Rattle.kernel_rules.specs.declared.known.Page.{Page}
 use Rattle.kernel_rules.specs.declared.known.Phase.TheVariants.{Seen}
+use Rattle.kernel_rules.specs.declared.known.Presence.TheVariants.{Missing as MissingPage}
 use Rattle.kernel_rules.specs.declared.object.Object.{Object}
 use Rattle.kernel_rules.specs.Changes.{page_with}
 use Rattle.kernel_rules.specs.Faults.{are_flags, fault_of, sees, stops_at, waits}
-use Rattle.kernel_rules.specs.Pages.{is_missing, is_of_protection, is_present, may_be_missing, shown}
+use Rattle.kernel_rules.specs.Pages.{is_missing, is_of_minor, is_of_protection, is_poisoned, is_present, known_as, may_be_missing, shown}
 use Rattle.kernel_rules.specs.Reads.{is_message}
 use Rattle.kernel_rules.specs.State.{Kernel, allowed, asked_for, of_object, page_is, pages_changed}
 use Rattle.kernel_laws.specs.Agreement.{Agree, AgreesAt, Counterparts, IsPage, Takes, features_of}
@@ -45,11 +46,16 @@ of-protection true false = refl
 of-protection false true = refl
 of-protection false false = refl
 
-judged : (write wp : Bool) → are_flags (fault_flags write wp) ≡ true
-judged true true = refl
-judged true false = refl
-judged false true = refl
-judged false false = refl
+of-minor : (write : Bool) → is_of_minor (fault_flags write false) ≡ false
+unfolding is_one
+of-minor true = refl
+of-minor false = refl
+
+judged : (write wp : Bool) → (wp ≡ true → write ≡ true) → are_flags (fault_flags write wp) ≡ true
+judged true true stores = refl
+judged true false stores = refl
+judged false true stores = absurd (false≢true (stores refl))
+judged false false stores = refl
 
 -- The page
 
@@ -57,11 +63,19 @@ judged false false = refl
 abbrev IsShown : Space → ℕ → Bool → Type 0
 IsShown space page protected = contains_key space.host.bytes page ≡ protected
 
+known-absent : (missing : Bool) → is_present (known_as missing MissingPage) ≡ false
+known-absent true = refl
+known-absent false = refl
+
+known-whole : (missing : Bool) → is_poisoned (known_as missing MissingPage) ≡ false
+known-whole true = refl
+known-whole false = refl
+
 page-shown : (space : Space) (name page : ℕ) (protected b : Bool) (found : Option Page) → IsSoundSpace space → (b ≡ true → IsShown space page protected) → AgreesAt space name page found → AgreesAt space name page (cond b (page_with (shown protected) found) found)
 page-shown space name page protected false found sound is agrees = agrees
 page-shown space name page protected true None sound is agrees = agrees
 page-shown space name page true true (Some one) sound is agrees =
-    record { object = agrees.object; missing = agrees.missing; protect = agrees.protect; registered = agrees.registered; absent = λ h. absurd (false≢true h); present = λ h. is refl; guarded = agrees.guarded }
+    record { object = agrees.object; missing = agrees.missing; protect = agrees.protect; registered = agrees.registered; absent = λ h. absurd (false≢true h); present = λ h. is refl; whole = refl; plain = agrees.plain; guarded = agrees.guarded }
 page-shown space name page false true (Some one) sound is agrees =
     record {
       object = agrees.object;
@@ -69,7 +83,9 @@ page-shown space name page false true (Some one) sound is agrees =
       protect = agrees.protect;
       registered = agrees.registered;
       absent = λ h. is refl;
-      present = λ h. absurd (false≢true h);
+      present = λ h. absurd (false≢true (sym (known-absent one.missing) ∙ h));
+      whole = known-whole one.missing;
+      plain = agrees.plain;
       guarded = λ guarded. absurd (false≢true (sym (is refl) ∙ sound.present page guarded));
     }
 
@@ -104,29 +120,33 @@ watched space page true stops = or_last (contains space.object.missing page) (co
   or_last a b h = grind (arith, nat_tests)
 watched space page false stops = ap (λ b. b || contains space.object.protect page) (stops.missing refl)
 
-stop-missing : (own p protected missing there : Bool) → own ≡ true → p ≡ false → missing ≡ true → there ≡ false → (own && cond p protected (missing && not there)) ≡ true
-stop-missing own p protected missing there ho hp hm ht = grind (arith, nat_tests)
+stop-missing : (own poisoned p m protected minor missing there : Bool) → own ≡ true → poisoned ≡ false → p ≡ false → m ≡ false → missing ≡ true → there ≡ false →
+    (own && not poisoned && cond p protected (cond m (minor && not there) (missing && not there))) ≡ true
+stop-missing own poisoned p m protected minor missing there ho hw hp hf hm ht = grind (arith, nat_tests)
 
-stop-protected : (own p protect guarded absent missing : Bool) → own ≡ true → p ≡ true → protect ≡ true → guarded ≡ true → absent ≡ false → (own && cond p (protect && guarded && not absent) missing) ≡ true
-stop-protected own p protect guarded absent missing ho hp hw hg ha = grind (arith, nat_tests)
+stop-protected : (own poisoned p protect guarded absent missing : Bool) → own ≡ true → poisoned ≡ false → p ≡ true → protect ≡ true → guarded ≡ true → absent ≡ false → (own && not poisoned && cond p (protect && guarded && not absent) missing) ≡ true
+stop-protected own poisoned p protect guarded absent missing ho hd hp hw hg ha = grind (arith, nat_tests)
 
 not-missing : (absent there : Bool) → (absent ≡ true → there ≡ false) → there ≡ true → absent ≡ false
 not-missing absent there h is = grind (arith, nat_tests)
 
 stops-one : (space : Space) (name page : ℕ) (write wp : Bool) (one : Page) → Stops space page wp → IsPage space name page one → stops_at name (fault_flags write wp) one ≡ true
 stops-one space name page write false one stops is =
-    stop-missing (eqb one.object name) (is_of_protection (fault_flags write false)) (one.protect && one.guarded && not (is_missing one.presence)) one.missing (is_present one.presence)
-    (ap (λ n. eqb n name) is.object ∙ eqb-self name) (of-protection write false) (is.missing ∙ stops.missing refl) (only_where (is_present one.presence) (contains_key space.host.bytes page) is.present stops.there)
+    stop-missing (eqb one.object name) (is_poisoned one.presence) (is_of_protection (fault_flags write false)) (is_of_minor (fault_flags write false)) (one.protect && one.guarded && not (is_missing one.presence)) one.minor one.missing
+    (is_present one.presence) (ap (λ n. eqb n name) is.object ∙ eqb-self name) is.whole (of-protection write false) (of-minor write) (is.missing ∙ stops.missing refl) (only_where (is_present one.presence) (contains_key space.host.bytes page) is.present stops.there)
 stops-one space name page write true one stops is =
-    stop-protected (eqb one.object name) (is_of_protection (fault_flags write true)) one.protect one.guarded (is_missing one.presence) (one.missing && may_be_missing one)
-    (ap (λ n. eqb n name) is.object ∙ eqb-self name) (of-protection write true) (is.protect ∙ (stops.protect refl).0) (is.guarded (stops.protect refl).1)
+    stop-protected (eqb one.object name) (is_poisoned one.presence) (is_of_protection (fault_flags write true)) one.protect one.guarded (is_missing one.presence)
+    (cond (is_of_minor (fault_flags write true)) (one.minor && may_be_missing one) (one.missing && may_be_missing one)) (ap (λ n. eqb n name) is.object ∙ eqb-self name) is.whole (of-protection write true) (is.protect ∙ (stops.protect refl).0) (is.guarded (stops.protect refl).1)
     (not-missing (is_missing one.presence) (contains_key space.host.bytes page) is.absent stops.there)
 
 -- The message
 
 -- the thread is named by its number if the object asked for that
-named-thread : (b : Bool) (thread cpu : ℕ) → (b ≡ true → thread ≡ cpu + 1) → cond b (eqb thread (cond b (cpu + 1) 0)) (eqb (cond b (cpu + 1) 0) 0) ≡ true
-named-thread true thread cpu is = ap (λ n. eqb n (cpu + 1)) (is refl) ∙ eqb-self (cpu + 1)
+named-thread : (b : Bool) (thread cpu : ℕ) → (b ≡ true → thread ≡ cpu + 1) → cond b (eqb thread (cond b (cpu + 1) 0) && ltb 0 (cond b (cpu + 1) 0)) (eqb (cond b (cpu + 1) 0) 0) ≡ true
+named-thread true thread cpu is = ap (λ n. eqb n (cpu + 1) && ltb 0 (cpu + 1)) (is refl) ∙ named (cpu + 1) (omega (arith))
+  where
+    named : (n : ℕ) → 0 < n → (eqb n n && ltb 0 n) ≡ true
+    named n h = grind (arith, nat_tests)
 named-thread false thread cpu is = refl
 
 pub asked : (space : Space) (kernel : Kernel) (name : ℕ) (object : Object) (bit : ℕ) → Agree space kernel name object → space.object.enabled ≡ true → asked_for object bit ≡ is_one space.object.features bit
@@ -145,9 +165,9 @@ is-told : (space : Space) (kernel : Kernel) (name : ℕ) (object : Object) (faul
     is_message object fault (4096 * fault.page) fault.flags (thread_id space.object cpu) ≡ true
 is-told space kernel name object fault cpu agree enabled named =
     let thread = thread_id space.object cpu in
-    four (eqb fault.page (4096 * fault.page / 4096)) (asked_for object 11 || eqb (4096 * fault.page % 4096) 0) (eqb fault.flags fault.flags) (cond (asked_for object 8) (eqb fault.thread thread) (eqb thread 0))
+    four (eqb fault.page (4096 * fault.page / 4096)) (asked_for object 11 || eqb (4096 * fault.page % 4096) 0) (eqb fault.flags fault.flags) (cond (asked_for object 8) (eqb fault.thread thread && ltb 0 thread) (eqb thread 0))
     (ap (eqb fault.page) (pages_again fault.page) ∙ eqb-self fault.page) (aligned (asked_for object 11) fault.page) (eqb-self fault.flags)
-    (ap (λ b. cond b (eqb fault.thread thread) (eqb thread 0)) (asked space kernel name object 8 agree enabled) ∙ named-thread (is_one space.object.features 8) fault.thread cpu named)
+    (ap (λ b. cond b (eqb fault.thread thread && ltb 0 thread) (eqb thread 0)) (asked space kernel name object 8 agree enabled) ∙ named-thread (is_one space.object.features 8) fault.thread cpu named)
 
 -- The thread waits
 
@@ -159,8 +179,8 @@ abbrev noted_of : Space → (page cpu : ℕ) → (write wp : Bool) → Noted
 noted_of space page cpu write wp = record { message = Message.PageFault (4096 * page) write wp (thread_id space.object cpu); cpu = cpu }
 
 sees-taken : (space : Space) (kernel : Kernel) (name : ℕ) (object : Object) (cpu thread page : ℕ) (write wp : Bool) → Agree space kernel name object → space.object.enabled ≡ true → waits kernel thread ≡ false →
-    (is_one space.object.features 8 ≡ true → thread ≡ cpu + 1) → Stops space page wp → Takes (sees kernel thread name page (fault_flags write wp)) (requeued space (space.object.faults ++ noted_of space page cpu write wp ∷ []) space.object.events) name
-sees-taken space kernel name object cpu thread page write wp agree enabled idle named stops =
+    (is_one space.object.features 8 ≡ true → thread ≡ cpu + 1) → (wp ≡ true → write ≡ true) → Stops space page wp → Takes (sees kernel thread name page (fault_flags write wp)) (requeued space (space.object.faults ++ noted_of space page cpu write wp ∷ []) space.object.events) name
+sees-taken space kernel name object cpu thread page write wp agree enabled idle named stores stops =
     let flags = fault_flags write wp in
     let one : Fault = record { thread = thread; object = name; page = page; flags = flags; phase = Seen; read_by = None } in
     let now = pages_changed kernel object.space page 1 (shown (is_of_protection flags)) in
@@ -174,15 +194,15 @@ sees-taken space kernel name object cpu thread page write wp agree enabled idle 
       object = object;
       taken = ap (λ o. of_object o (λ o. allowed (not (waits kernel thread) && are_flags flags && page_is (stops_at name flags) (kernel.pages o.space page)) (record (pages_changed kernel o.space page 1 (shown (is_of_protection flags))) {
         faults = kernel.faults ++ one ∷ [];
-      }))) agree.named ∙ ap (λ b. allowed b new) (three (waits kernel thread) (are_flags flags) _ idle (judged write wp) stop);
+      }))) agree.named ∙ ap (λ b. allowed b new) (three (waits kernel thread) (are_flags flags) _ idle (judged write wp stores) stop);
       agree = agree-requeued space now name object kernel.faults new.faults (space.object.faults ++ noted ∷ []) (agree-shown space kernel name object page (is_of_protection flags) agree (stops.there ∙ sym (of-protection write wp))) unread;
     }
 
-finds-taken : (one : Counterparts) (cpu thread page : ℕ) (write wp b : Bool) → one.space.object.enabled ≡ true → waits one.kernel thread ≡ false → (is_one one.space.object.features 8 ≡ true → thread ≡ cpu + 1) → Stops one.space page wp →
+finds-taken : (one : Counterparts) (cpu thread page : ℕ) (write wp b : Bool) → one.space.object.enabled ≡ true → waits one.kernel thread ≡ false → (is_one one.space.object.features 8 ≡ true → thread ≡ cpu + 1) → (wp ≡ true → write ≡ true) → Stops one.space page wp →
     Takes (cond b (Some one.kernel) (sees one.kernel thread one.name page (fault_flags write wp)))
     (record one.space { object = cond b one.space.object (record one.space.object { faults = one.space.object.faults ++ noted_of one.space page cpu write wp ∷ [] }) }) one.name
-finds-taken one cpu thread page write wp true enabled idle named stops = record { kernel = one.kernel; object = one.object; taken = refl; agree = one.agree }
-finds-taken one cpu thread page write wp false enabled idle named stops = sees-taken one.space one.kernel one.name one.object cpu thread page write wp one.agree enabled idle named stops
+finds-taken one cpu thread page write wp true enabled idle named stores stops = record { kernel = one.kernel; object = one.object; taken = refl; agree = one.agree }
+finds-taken one cpu thread page write wp false enabled idle named stores stops = sees-taken one.space one.kernel one.name one.object cpu thread page write wp one.agree enabled idle named stores stops
 
 -- An access that is answered
 
@@ -197,6 +217,8 @@ page-stored space host name page (Some one) same agrees =
       registered = agrees.registered;
       absent = λ h. same agrees.registered ∙ agrees.absent h;
       present = λ h. same agrees.registered ∙ agrees.present h;
+      whole = agrees.whole;
+      plain = agrees.plain;
       guarded = agrees.guarded;
     }
 
@@ -249,10 +271,10 @@ makes-taken one cpu thread command Missing is enabled idle named watched sound e
     let says = stops-missing _ (not (contains_key one.space.host.bytes page)) (contains one.space.object.missing page) _ (reply_of (memory one.space.host) command) ends in
     let stops : Stops one.space page false =
     record { there = not-true (contains_key one.space.host.bytes page) says.0; missing = λ h. says.1; protect = λ h. absurd (false≢true h) } in
-    finds-taken one cpu thread page (is_store command) false (waits_fault one.space.object.faults (4096 * page) false) enabled idle named stops
+    finds-taken one cpu thread page (is_store command) false (waits_fault one.space.object.faults (4096 * page) false) enabled idle named (λ h. absurd (false≢true h)) stops
 makes-taken one cpu thread command Protected is enabled idle named watched sound ends =
     let page = page_of command in
     let says = stops-protected _ _ (is_store command) (contains one.space.object.protect page) (contains one.space.protected page) (reply_of (memory one.space.host) command) ends in
     let stops : Stops one.space page true =
     record { there = one.agree.sound.present page says.1; missing = λ h. absurd (false≢true (sym h)); protect = λ h. says } in
-    finds-taken one cpu thread page true true (waits_fault one.space.object.faults (4096 * page) true) enabled idle named stops
+    finds-taken one cpu thread page true true (waits_fault one.space.object.faults (4096 * page) true) enabled idle named (λ h. refl) stops

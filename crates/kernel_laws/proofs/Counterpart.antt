@@ -122,11 +122,11 @@ told-by kernel key (noted ∷ rest) has =
 -- The kernel
 
 object_of : Space → Object
-object_of space = record { space = 0; waits = false; features = features_of space.object.enabled space.object.features; puts = false }
+object_of space = record { space = 0; program = 0; waits = false; features = features_of space.object.enabled space.object.features; puts = false }
 
 page_of : Space → ℕ → Page
 page_of space page =
-    record { object = 0; missing = contains space.object.missing page; protect = contains space.object.protect page; presence = Unknown; guarded = contains space.protected page; put = false }
+    record { object = 0; missing = contains space.object.missing page; protect = contains space.object.protect page; presence = Unknown; guarded = contains space.protected page; put = false; freed = false; minor = false }
 
 kernel_of : Space → Kernel
 kernel_of space =
@@ -142,7 +142,7 @@ kernel_of space =
 agrees : (space : Space) (page : ℕ) (b : Bool) → is_registered space.object page ≡ b → AgreesAt space 0 page (cond b (Some (page_of space page)) None)
 unfolding page_of
 agrees space page true is =
-    record { object = refl; missing = refl; protect = refl; registered = is; absent = λ h. absurd (false≢true h); present = λ h. absurd (false≢true h); guarded = λ h. h }
+    record { object = refl; missing = refl; protect = refl; registered = is; absent = λ h. absurd (false≢true h); present = λ h. absurd (false≢true h); whole = refl; plain = refl; guarded = λ h. h }
 agrees space page false is = is
 
 untold-of : (space : Space) → AreUnmapsAndRemaps space.object.events → AreUntold 0 (telling (kernel_of space)) space.object.events

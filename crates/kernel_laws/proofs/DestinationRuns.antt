@@ -1,7 +1,7 @@
 -- The log of a destination whose guest moves and clears no pages has a run, step by step.
 use Rattle.std.proofs.lemmas.Bool.Decides.{nat_tests}
 use Rattle.std.proofs.lemmas.Bool.{false≢true}
-use Rattle.std.proofs.Common.{◌≡◌, ℕ, ◌*◌, Bool, true, false, Option, Some, None, List, [], ◌∷◌, map, arith, refl, sym, ap, subst, ◌∙◌}
+use Rattle.std.proofs.Common.{◌≡◌, ℕ, ◌*◌, Bool, true, false, Option, Some, None, List, [], ◌∷◌, ◌++◌, map, arith, refl, sym, ap, subst, ◌∙◌}
 use Rattle.std.specs.Prelude.{Result, Ok, Err}
 use Rattle.std.specs.FinSet.{contains}
 use Rattle.mig_base.specs.declared.act.Act.{Act}
@@ -14,12 +14,13 @@ use Rattle.mig_base.specs.declared.schedule.Step.{Step}
 use Rattle.mig_base.specs.Acts.{act_effect}
 use Rattle.mig_base.specs.Bits.{is_one}
 use Rattle.mig_base.specs.Commands.{is_access, page_of}
+use Rattle.mig_base.proofs.TestLemmas.{and_first, and_second}
 use Rattle.mig_base.specs.Userfault.{Noted, message_read, next_message}
 use Rattle.mig_model.specs.Cpus.{outstanding, processor_at}
 use Rattle.mig_model.specs.Destination.{Destination, destination_acted_by, destination_took, install_by, urgent_took}
 use Rattle.mig_model.specs.Effects.{install_effect}
 use Rattle.mig_model.specs.Faults.{is_in_place}
-use Rattle.mig_model.specs.Guest.{Guest, space_by, tried}
+use Rattle.mig_model.specs.Guest.{Guest, is_changing, space_by, tried}
 use Rattle.mig_model.specs.Ioctls.{event_features}
 use Rattle.mig_model.specs.Invariant.{RanAt}
 use Rattle.mig_model.specs.Migration.{World, guest_by, guest_of, next, outcome, with_guest_by}
@@ -40,10 +41,14 @@ use Rattle.mig_model.proofs.transcript.WaitingAccesses.{are_accesses, as_many}
 use Rattle.uffd_log.specs.declared.call.Descriptor.{Descriptor}
 use Rattle.kernel_rules.specs.State.{may_be_outside}
 use Rattle.kernel_laws.specs.Agreement.{Counterparts}
-use Rattle.kernel_laws.specs.Logs.{AreFollowed, AreLogged, IsFollowed, Running, Written, act_call, calls_written, destination, destination_writes, install_call, is_followed, issue_written, lines_of_calls, log_of, map_call, read_written, space_after}
+use Rattle.kernel_laws.specs.Logs.{AreFollowed, AreLogged, IsFollowed, Open, Running, Written, act_call, calls_written, destination, destination_writes, install_call, is_followed, issue_written, keeps_off_all, lines_of_calls, log_of, map_call, read_written, space_after, under_way}
 use Rattle.kernel_laws.proofs.Followed.{followed-copy, followed-wake, followed-zeropage, has-copy}
-use Rattle.kernel_laws.proofs.LogRuns.{AreAll, Goes, Writes, accessed-logged, copy-logged, each-followed, every-logged, logged-from, no_thread_ids, stays, wake-logged, writes-calls, zeropage-logged}
-use Rattle.kernel_laws.proofs.MapRuns.{command-writes, has_events_in, message-logged, no-map-call}
+use Rattle.kernel_laws.proofs.LogRuns.{AreAll, Goes, Writes, accessed-logged, copy-logged, no_thread_ids, stays, wake-logged, writes-calls, zeropage-logged}
+use Rattle.kernel_laws.proofs.Moves.{IsOther, Kept, held-changing, held-next, idle, kept-by, makes, reads, tries, wrote-next}
+use Rattle.kernel_laws.proofs.States.{Ends, Free, Next, State, counterpart, every-ends, free, held, log_begun, logged-from, run_world}
+use Rattle.kernel_laws.proofs.GuestCalls.{command-next}
+use Rattle.kernel_laws.proofs.DiscardRuns.{pending_for}
+use Rattle.kernel_laws.proofs.MapRuns.{has_events_in, message-logged, no-map-call}
 use Rattle.kernel_laws.proofs.OpenCalls.{AreBelow, HasCalls, Pending, open_of}
 
 -- The state of a destination that runs, and a kernel whose object agrees, with map calls under way
@@ -146,17 +151,16 @@ took-guest node epoch frame ran none = grind (arith, nat_tests)
 urgent-guest : (node : Destination) (frame : Frame) → (urgent_took node frame).guest ≡ node.guest
 urgent-guest node frame = grind (arith, nat_tests)
 
-delivered-guest : (at : At) (n : ℕ) → (next at.world (Step.Deliver n)).destination.guest ≡ at.world.destination.guest
-delivered-guest at n =
-    let world = at.world in
-    let all = bounded-reached world at.reached in
+delivered-guest : (world : World) → IsReached world → world.destination.has_run ≡ true → (n : ℕ) → (next world (Step.Deliver n)).destination.guest ≡ world.destination.guest
+delivered-guest world reached ran n =
+    let all = bounded-reached world reached in
     let kept = all.ready.kept in
     made-next (λ new. new.destination.guest ≡ world.destination.guest) world (Step.Deliver n) refl (
       (λ sent rest first short. refl),
       (λ sent rest first full started up free early.
-          took-guest world.destination sent.epoch sent.frame at.ran
-          (no-package world.destination.phase sent.frame world.destination.has_run world.destination.ended kept.phases.destination_phase at.ran
-          (is_taken world sent rest kept all.urgent (as_many world at.reached) up first).in_place)),
+          took-guest world.destination sent.epoch sent.frame ran
+          (no-package world.destination.phase sent.frame world.destination.has_run world.destination.ended kept.phases.destination_phase ran
+          (is_taken world sent rest kept all.urgent (as_many world reached) up first).in_place)),
     )
 
 urgently-delivered : (world : World) (n : ℕ) → (next world (Step.DeliverUrgent n)).destination.guest ≡ world.destination.guest
@@ -198,32 +202,28 @@ asked-events : has_events_in event_features ≡ true
 unfolding is_one
 asked-events = refl
 
-map-logged : (at : At) (key cpu : ℕ) (command : Command) → AreBelow key at.calls → is_access command ≡ false → is_followed command ≡ true →
-    Writes at.calls at.one (issue_written at.one.object.space key (map open_of at.calls) at.world.destination.guest.space command (map_call command)) (with_guest_by at.world.destination.has_run at.world (tried (is_access command) (guest_of at.world) cpu command)).destination.guest.space
-map-logged at key cpu command below access followed =
+issue-by : {name home key : ℕ} (at : At) (its : Free name home key at.world.destination.guest.space at.calls at.one) (cpu : ℕ) (command : Command) (access : Bool) → is_access command ≡ access → is_followed command ≡ true →
+    Next name home (under_way at.one.kernel (map open_of at.calls)) at.one (issue_written home key (map open_of at.calls) at.world.destination.guest.space command (map_call command))
+    (with_guest_by at.world.destination.has_run at.world (tried (is_access command) (guest_of at.world) cpu command)).destination.guest.space
+issue-by {name = name} {home = home} {key = key} at its cpu command false is followed =
     let world = at.world in
-    let all = bounded-reached world at.reached in
-    let opened = all.opened.destination at.ran in
-    subst (Writes at.calls at.one (issue_written at.one.object.space key (map open_of at.calls) world.destination.guest.space command (map_call command))) (sym (called-space world.destination.has_run world cpu command at.ran access))
-    (subst (λ s. Writes at.calls at.one (issue_written at.one.object.space key (map open_of at.calls) s command (map_call command)) (called s cpu command)) at.same
-    (command-writes at.one key cpu command below at.told (ap (λ (s : Space). s.object.enabled) at.same ∙ opened.enabled)
+    let opened = (bounded-reached world at.reached).opened.destination at.ran in
+    let start = under_way at.one.kernel (map open_of at.calls) in
+    subst (Next name home start at.one (issue_written home key (map open_of at.calls) world.destination.guest.space command (map_call command))) (sym (called-space world.destination.has_run world cpu command at.ran is))
+    (subst (λ n. Next name home start at.one (issue_written n key (map open_of at.calls) world.destination.guest.space command (map_call command)) (called world.destination.guest.space cpu command)) (sym its.there)
+    (subst (λ s. Next name home start at.one (issue_written at.one.object.space key (map open_of at.calls) s command (map_call command)) (called s cpu command)) at.same
+    (command-next (record { same = refl; told = its.told; below = its.below; own = its.own; there = its.there }) cpu command (ap (λ (s : Space). s.object.enabled) at.same ∙ opened.enabled)
     (ap (λ (s : Space). has_events_in s.object.features) at.same ∙ ap has_events_in opened.asked ∙ asked-events)
-    (subst (λ (s : Space). IsMapping s.host.areas) (sym at.same) (memory_bounded world at.reached).destination) access followed))
-
-issue-writes : (at : At) (key cpu : ℕ) (command : Command) (access : Bool) → AreBelow key at.calls → is_access command ≡ access → is_followed command ≡ true →
-    Writes at.calls at.one (issue_written at.one.object.space key (map open_of at.calls) at.world.destination.guest.space command (map_call command)) (with_guest_by at.world.destination.has_run at.world (tried (is_access command) (guest_of at.world) cpu command)).destination.guest.space
-issue-writes at key cpu command false below is followed = map-logged at key cpu command below is followed
-issue-writes at key cpu command true below is followed =
+    (subst (λ (s : Space). IsMapping s.host.areas) (sym at.same) (memory_bounded world at.reached).destination) is followed)))
+issue-by {name = name} {home = home} {key = key} at its cpu command true is followed =
     let space = (with_guest_by at.world.destination.has_run at.world (tried (is_access command) (guest_of at.world) cpu command)).destination.guest.space in
-    subst (λ o. Writes at.calls at.one (issue_written at.one.object.space key (map open_of at.calls) at.world.destination.guest.space command o) space) (sym (no-map-call command is)) (writes-calls at.one key [] space below (command-logged at cpu command is))
+    wrote-next (issue_written home key (map open_of at.calls) at.world.destination.guest.space command (map_call command)) space its
+    (subst (λ o. Writes at.calls at.one (issue_written home key (map open_of at.calls) at.world.destination.guest.space command o) space) (sym (no-map-call command is)) (writes-calls at.one key [] space its.below (command-logged at cpu command is)))
 
 -- Every step
 
 nothing-writes : (at : At) (key : ℕ) (space : Space) → AreBelow key at.calls → at.one.space ≡ space → Writes at.calls at.one (calls_written key (map open_of at.calls) []) space
 nothing-writes at key space below same = writes-calls at.one key [] space below (stays at.one space same at.told)
-
-unchanged : (at : At) (key : ℕ) (step : Step) → AreBelow key at.calls → (next at.world step).destination ≡ at.world.destination → Writes at.calls at.one (calls_written key (map open_of at.calls) []) (next at.world step).destination.guest.space
-unchanged at key step below is = nothing-writes at key (next at.world step).destination.guest.space below (at.same ∙ ap (λ (node : Destination). node.guest.space) (sym is))
 
 -- by the outcome: a refused step changes nothing
 by-outcome : (at : At) (key : ℕ) (step : Step) (written : Result Effect Refusal → Written) (result : Result Effect Refusal) → AreBelow key at.calls → ((refusal : Refusal) → written (Err refusal) ≡ calls_written key (map open_of at.calls) []) → outcome at.world step ≡ result →
@@ -233,43 +233,52 @@ by-outcome at key step written (Err refusal) below none is made =
     subst (λ w. Writes at.calls at.one w (next at.world step).destination.guest.space) (sym (none refusal))
     (nothing-writes at key (next at.world step).destination.guest.space below (at.same ∙ sym (ap (λ (w : World). w.destination.guest.space) (next-refused at.world step refusal is))))
 
-step-writes : (at : At) (key : ℕ) (step : Step) → AreBelow key at.calls → IsFollowed step →
-    Writes at.calls at.one (destination_writes at.on at.from at.one.object.space key (map open_of at.calls) at.world step (outcome at.world step)) (next at.world step).destination.guest.space
-step-writes at key (Step.Issue cpu command) below followed =
-    by-outcome at key (Step.Issue cpu command) (destination_writes at.on at.from at.one.object.space key (map open_of at.calls) at.world (Step.Issue cpu command)) (outcome at.world (Step.Issue cpu command)) below (λ refusal. refl) refl
-    (λ effect is.
-    made-effect (λ effect new. Writes at.calls at.one (issue_written at.one.object.space key (map open_of at.calls) at.world.destination.guest.space command (map_call command)) new.destination.guest.space) at.world (Step.Issue cpu command) effect
-    (λ there idle runs. issue-writes at key cpu command (is_access command) below refl followed) is)
-step-writes at key (Step.Retry cpu) below followed =
+-- the guest of the destination has no part in a step
+abbrev IsPassive : Step → Type 0
+IsPassive (Step.Issue cpu command) = ⊥
+IsPassive (Step.Retry cpu) = ⊥
+IsPassive Step.DestRead = ⊥
+IsPassive Step.DestAct = ⊥
+IsPassive Step.Install = ⊥
+IsPassive step = Unit {0}
+
+passive : (world : World) (step : Step) → IsPassive step → IsReached world → world.destination.has_run ≡ true → (next world step).destination.guest ≡ world.destination.guest
+passive world (Step.Deliver n) is reached ran = delivered-guest world reached ran n
+passive world (Step.DeliverUrgent n) is reached ran = urgently-delivered world n
+passive world (Step.Notice Side.Source) is reached ran = ap (λ (w : World). w.destination.guest) (changes_parts world (Step.Notice Side.Source)).is
+passive world (Step.Notice Side.Destination) is reached ran = ap (λ (w : World). w.destination.guest) (changes_parts world (Step.Notice Side.Destination)).is
+passive world Step.Start is reached ran = ap (λ (node : Destination). node.guest) (changes_parts world Step.Start).destination
+passive world Step.Round is reached ran = ap (λ (node : Destination). node.guest) (changes_parts world Step.Round).destination
+passive world Step.Send is reached ran = ap (λ (node : Destination). node.guest) (changes_parts world Step.Send).destination
+passive world (Step.SendRun count) is reached ran = ap (λ (node : Destination). node.guest) (changes_parts world (Step.SendRun count)).destination
+passive world Step.SourceRead is reached ran = ap (λ (node : Destination). node.guest) (changes_parts world Step.SourceRead).destination
+passive world Step.SourceAct is reached ran = ap (λ (node : Destination). node.guest) (changes_parts world Step.SourceAct).destination
+passive world Step.Switch is reached ran = ap (λ (node : Destination). node.guest) (changes_parts world Step.Switch).destination
+passive world (Step.DeliverBack n) is reached ran = ap (λ (node : Destination). node.guest) (changes_parts world (Step.DeliverBack n)).destination
+passive world (Step.Push ticket) is reached ran = ap (λ (node : Destination). node.guest) (changes_parts world (Step.Push ticket)).destination
+passive world (Step.PushUrgent ticket) is reached ran = ap (λ (node : Destination). node.guest) (changes_parts world (Step.PushUrgent ticket)).destination
+passive world Step.Serve is reached ran = ap (λ (node : Destination). node.guest) (changes_parts world Step.Serve).destination
+passive world Step.End is reached ran = ap (λ (node : Destination). node.guest) (changes_parts world Step.End).destination
+passive world Step.Break is reached ran = ap (λ (node : Destination). node.guest) (changes_parts world Step.Break).destination
+passive world Step.Resume is reached ran = ap (λ (node : Destination). node.guest) (changes_parts world Step.Resume).destination
+passive world step is reached ran = absurd is
+
+step-writes : (at : At) (home key : ℕ) (step : Step) → AreBelow key at.calls → IsOther step →
+    Writes at.calls at.one (destination_writes at.on at.from home key (map open_of at.calls) at.world step (outcome at.world step)) (next at.world step).destination.guest.space
+step-writes at home key (Step.Issue cpu command) below other = absurd other
+step-writes at home key (Step.Retry cpu) below other =
     writes-calls at.one key [] (next at.world (Step.Retry cpu)).destination.guest.space below
     (made-next (λ new. Goes at.calls at.calls at.one [] new.destination.guest.space) at.world (Step.Retry cpu) (stays at.one at.world.destination.guest.space at.same at.told)
     (λ command waits woken runs. command-logged at cpu command (retried-access at.world.destination.has_run at.world cpu command at.reached at.ran waits)))
-step-writes at key (Step.Deliver n) below followed = nothing-writes at key _ below (at.same ∙ ap (λ (guest : Guest). guest.space) (sym (delivered-guest at n)))
-step-writes at key (Step.DeliverUrgent n) below followed = nothing-writes at key _ below (at.same ∙ ap (λ (guest : Guest). guest.space) (sym (urgently-delivered at.world n)))
-step-writes at key Step.DestRead below followed =
-    by-outcome at key Step.DestRead (destination_writes at.on at.from at.one.object.space key (map open_of at.calls) at.world Step.DestRead) (outcome at.world Step.DestRead) below (λ refusal. refl) refl (λ effect is. dest-read-writes at key effect below is)
-step-writes at key Step.DestAct below followed =
-    by-outcome at key Step.DestAct (destination_writes at.on at.from at.one.object.space key (map open_of at.calls) at.world Step.DestAct) (outcome at.world Step.DestAct) below (λ refusal. refl) refl
+step-writes at home key Step.DestRead below other =
+    by-outcome at key Step.DestRead (destination_writes at.on at.from home key (map open_of at.calls) at.world Step.DestRead) (outcome at.world Step.DestRead) below (λ refusal. refl) refl (λ effect is. dest-read-writes at key effect below is)
+step-writes at home key Step.DestAct below other =
+    by-outcome at key Step.DestAct (destination_writes at.on at.from home key (map open_of at.calls) at.world Step.DestAct) (outcome at.world Step.DestAct) below (λ refusal. refl) refl
     (λ effect is. writes-calls at.one key (act_call at.on effect) (next at.world Step.DestAct).destination.guest.space below (act-logged at key effect below is))
-step-writes at key Step.Install below followed =
-    by-outcome at key Step.Install (destination_writes at.on at.from at.one.object.space key (map open_of at.calls) at.world Step.Install) (outcome at.world Step.Install) below (λ refusal. refl) refl
+step-writes at home key Step.Install below other =
+    by-outcome at key Step.Install (destination_writes at.on at.from home key (map open_of at.calls) at.world Step.Install) (outcome at.world Step.Install) below (λ refusal. refl) refl
     (λ effect is. writes-calls at.one key (install_call at.on at.from effect) (next at.world Step.Install).destination.guest.space below (install-logged at key effect below is))
-step-writes at key (Step.Notice Side.Source) below followed = nothing-writes at key _ below (at.same ∙ sym (ap (λ (w : World). w.destination.guest.space) (changes_parts at.world (Step.Notice Side.Source)).is))
-step-writes at key (Step.Notice Side.Destination) below followed = nothing-writes at key _ below (at.same ∙ sym (ap (λ (w : World). w.destination.guest.space) (changes_parts at.world (Step.Notice Side.Destination)).is))
-step-writes at key Step.Start below followed = unchanged at key Step.Start below (changes_parts at.world Step.Start).destination
-step-writes at key Step.Round below followed = unchanged at key Step.Round below (changes_parts at.world Step.Round).destination
-step-writes at key Step.Send below followed = unchanged at key Step.Send below (changes_parts at.world Step.Send).destination
-step-writes at key (Step.SendRun count) below followed = unchanged at key (Step.SendRun count) below (changes_parts at.world (Step.SendRun count)).destination
-step-writes at key Step.SourceRead below followed = unchanged at key Step.SourceRead below (changes_parts at.world Step.SourceRead).destination
-step-writes at key Step.SourceAct below followed = unchanged at key Step.SourceAct below (changes_parts at.world Step.SourceAct).destination
-step-writes at key Step.Switch below followed = unchanged at key Step.Switch below (changes_parts at.world Step.Switch).destination
-step-writes at key (Step.DeliverBack n) below followed = unchanged at key (Step.DeliverBack n) below (changes_parts at.world (Step.DeliverBack n)).destination
-step-writes at key (Step.Push ticket) below followed = unchanged at key (Step.Push ticket) below (changes_parts at.world (Step.Push ticket)).destination
-step-writes at key (Step.PushUrgent ticket) below followed = unchanged at key (Step.PushUrgent ticket) below (changes_parts at.world (Step.PushUrgent ticket)).destination
-step-writes at key Step.Serve below followed = unchanged at key Step.Serve below (changes_parts at.world Step.Serve).destination
-step-writes at key Step.End below followed = unchanged at key Step.End below (changes_parts at.world Step.End).destination
-step-writes at key Step.Break below followed = unchanged at key Step.Break below (changes_parts at.world Step.Break).destination
-step-writes at key Step.Resume below followed = unchanged at key Step.Resume below (changes_parts at.world Step.Resume).destination
+step-writes at home key step below other = nothing-writes at key _ below (at.same ∙ ap (λ (guest : Guest). guest.space) (sym (passive at.world step tt at.reached at.ran)))
 
 -- Every list of steps
 
@@ -320,18 +329,89 @@ all-run : (world : World) (steps : List Step) → HasRun world → AreAll HasRun
 all-run world [] it = it
 all-run world (step ∷ steps) it = (it, all-run (next world step) steps (reached-next world step it.0, runs-on world step it.1))
 
-pub steps-written : (at : At) (home key : ℕ) (steps : List Step) → AreFollowed steps → AreBelow key at.calls → home ≡ at.one.object.space →
-    Writes at.calls at.one (log_of (destination at.on at.from home) key (map open_of at.calls) at.world steps) (space_after (destination at.on at.from home) at.world steps)
-steps-written at home key steps followed below there =
-    every-logged (destination at.on at.from home) at.on.object home HasRun IsFollowed (λ calls. Unit {0})
-    (λ world before one number step it then is kept low same told own home_is. (
-      subst (λ n. Writes before one (destination_writes at.on at.from n number (map open_of before) world step (outcome world step)) (next world step).destination.guest.space) (sym home_is)
-          (step-writes (record { world = world; reached = it.0; ran = it.1; calls = before; one = one; same = same; told = told; on = at.on; own = own; from = at.from; source = at.source }) number step low is),
-      tt,
-    ))
-    at.world at.calls at.one key steps (all-run at.world steps (at.reached, at.ran)) (each-followed steps followed) tt below at.same at.told at.own there
+-- a step while no MADV_DONTNEED is under way
+free-next : {name home key : ℕ} (at : At) (its : Free name home key at.world.destination.guest.space at.calls at.one) (step : Step) → IsFollowed at.world.destination.guest.space (map open_of at.calls) at.world step →
+    Next name home (under_way at.one.kernel (map open_of at.calls)) at.one (destination_writes at.on at.from home key (map open_of at.calls) at.world step (outcome at.world step)) (next at.world step).destination.guest.space
+free-next {name = name} {home = home} {key = key} at its (Step.Issue cpu command) followed =
+    by (outcome at.world (Step.Issue cpu command)) refl
+  where
+    step : Step
+    step = Step.Issue cpu command
 
-pub steps-logged : (at : Running) (key : ℕ) (steps : List Step) → AreFollowed steps → AreLogged (destination at.on at.from at.one.object.space) at.one key at.world steps
+    by : (result : Result Effect Refusal) → outcome at.world step ≡ result →
+        Next name home (under_way at.one.kernel (map open_of at.calls)) at.one (destination_writes at.on at.from home key (map open_of at.calls) at.world step result) (next at.world step).destination.guest.space
+    by (Ok effect) is =
+        made-effect (λ effect new. Next name home (under_way at.one.kernel (map open_of at.calls)) at.one (issue_written home key (map open_of at.calls) at.world.destination.guest.space command (map_call command)) new.destination.guest.space) at.world step effect
+        (λ there idle runs. issue-by at its cpu command (is_access command) refl (and_first (is_followed command) (keeps_off_all at.world.destination.guest.space command (map open_of at.calls)) followed)) is
+    by (Err refusal) is =
+        let space = (next at.world step).destination.guest.space in
+        wrote-next (calls_written key (map open_of at.calls) []) space its (nothing-writes at key space its.below (at.same ∙ sym (ap (λ (w : World). w.destination.guest.space) (next-refused at.world step refusal is))))
+free-next {home = home} {key = key} at its step followed = wrote-next _ _ its (step-writes at home key step its.below tt)
+
+-- One is under way: nothing is put, and the messages are read
+
+abbrev space_of : World → Space
+space_of world = world.destination.guest.space
+
+tried-kept : {on : Descriptor} {home key : ℕ} {begun : List Open} (world : World) (cpu : ℕ) (command : Command) → HasRun world → is_access command ≡ true → keeps_off_all (space_of world) command begun ≡ true →
+    Kept on home key begun (calls_written key begun []) (space_of world) (with_guest_by world.destination.has_run world (tried (is_access command) (guest_of world) cpu command)).destination.guest.space
+tried-kept world cpu command it access off =
+    let all = bounded-reached world it.0 in
+    let opened = all.opened.destination it.1 in
+    tries cpu command access off refl (command-space world.destination.has_run world cpu command it.1 access) (ap (λ n. is_one n 8) opened.asked ∙ no_thread_ids)
+    (λ protect. absurd (false≢true (sym (all.ready.kept.spaces.only_missing (page_of command)) ∙ protect)))
+
+-- by whether it is an access
+issued-kept : {on : Descriptor} {home key : ℕ} {begun : List Open} (world : World) (cpu : ℕ) (command : Command) (access : Bool) → HasRun world → is_access command ≡ access → is_followed command ≡ true → keeps_off_all (space_of world) command begun ≡ true →
+    Kept on home key begun (issue_written home key begun (space_of world) command (map_call command)) (space_of world) (with_guest_by world.destination.has_run world (tried (is_access command) (guest_of world) cpu command)).destination.guest.space
+issued-kept {on = on} {home = home} {key = key} {begun = begun} world cpu command true it access followed off =
+    subst (λ o. Kept on home key begun (issue_written home key begun (space_of world) command o) (space_of world) (with_guest_by world.destination.has_run world (tried (is_access command) (guest_of world) cpu command)).destination.guest.space)
+    (sym (no-map-call command access)) (tried-kept world cpu command it access off)
+issued-kept world cpu command false it access followed off =
+    makes cpu command access followed off refl (called-space world.destination.has_run world cpu command it.1 access) (memory_bounded world it.0).destination
+
+destination-kept : (on : Descriptor) (from home key : ℕ) (begun : List Open) (world : World) (step : Step) → HasRun world → is_changing world.destination.guest ≡ true → IsFollowed (space_of world) begun world step →
+    Kept on home key begun (destination_writes on from home key begun world step (outcome world step)) (space_of world) (space_of (next world step))
+destination-kept on from home key begun world (Step.Issue cpu command) it changing followed =
+    kept-by space_of world (Step.Issue cpu command) (destination_writes on from home key begun world (Step.Issue cpu command)) (outcome world (Step.Issue cpu command)) (λ refusal. refl) refl
+    (λ effect is.
+    made-effect (λ effect new. Kept on home key begun (issue_written home key begun (space_of world) command (map_call command)) (space_of world) (space_of new)) world (Step.Issue cpu command) effect
+    (λ there idle runs.
+    issued-kept world cpu command (is_access command) it refl (and_first (is_followed command) (keeps_off_all (space_of world) command begun) followed) (and_second (is_followed command) (keeps_off_all (space_of world) command begun) followed)) is)
+destination-kept on from home key begun world (Step.Retry cpu) it changing followed =
+    made-next (λ new. Kept on home key begun (calls_written key begun []) (space_of world) (space_of new)) world (Step.Retry cpu) (idle refl refl)
+    (λ command waits woken runs. tried-kept world cpu command it (retried-access world.destination.has_run world cpu command it.0 it.1 waits) (followed command waits))
+destination-kept on from home key begun world Step.DestRead it changing followed =
+    kept-by space_of world Step.DestRead (destination_writes on from home key begun world Step.DestRead) (outcome world Step.DestRead) (λ refusal. refl) refl
+    (λ effect is. let read = is-read world effect is in reads read.0 read.1 (ap (read_written on key begun) read.1) read.2)
+destination-kept on from home key begun world Step.DestAct it changing followed =
+    kept-by space_of world Step.DestAct (destination_writes on from home key begun world Step.DestAct) (outcome world Step.DestAct) (λ refusal. refl) refl
+    (λ effect is.
+    made-effect (λ effect new. Kept on home key begun (calls_written key begun (act_call on effect)) world.destination.guest.space new.destination.guest.space) world Step.DestAct effect
+    (λ fault rest first ran quiet. absurd (false≢true (sym quiet ∙ changing))) is)
+destination-kept on from home key begun world Step.Install it changing followed =
+    kept-by space_of world Step.Install (destination_writes on from home key begun world Step.Install) (outcome world Step.Install) (λ refusal. refl) refl
+    (λ effect is.
+    made-effect (λ effect new. Kept on home key begun (calls_written key begun (install_call on from effect)) world.destination.guest.space new.destination.guest.space) world Step.Install effect
+    (λ copy rest first ran quiet. absurd (false≢true (sym quiet ∙ changing))) is)
+destination-kept on from home key begun world step it changing followed = idle refl (ap (λ (guest : Guest). guest.space) (sym (passive world step tt it.0 it.1)))
+
+-- Each state
+
+state-next : (on : Descriptor) (from home : ℕ) → may_be_outside from 4096 ≡ false → (world : World) (key : ℕ) (state : State on.object home key world.destination.guest.space) (step : Step) → HasRun world → IsFollowed world.destination.guest.space (log_begun state) world step →
+    Next on.object home (run_world state) (counterpart state) (destination_writes on from home key (log_begun state) world step (outcome world step)) (next world step).destination.guest.space
+state-next on from home source world key (free calls one its) step it followed =
+    free-next (record { world = world; reached = it.0; ran = it.1; calls = calls; one = one; same = its.same; told = its.told; on = on; own = its.own; from = from; source = source }) its step followed
+state-next on from home source world key (held clearing calls one its) step it followed =
+    held-next its on (destination_writes on from home key (log_begun (held clearing calls one its)) world step (outcome world step)) (next world step).destination.guest.space refl (bounded-reached world it.0).ready.kept.spaces.destination_space
+    (destination-kept on from home key (map open_of calls ++ open_of (pending_for clearing) ∷ []) world step it (held-changing its) followed)
+
+pub steps-end : (on : Descriptor) (from home : ℕ) → may_be_outside from 4096 ≡ false → (world : World) (key : ℕ) (one : Counterparts) (steps : List Step) → HasRun world → Free on.object home key world.destination.guest.space [] one →
+    AreFollowed (destination on from home) key [] world steps → Ends on.object (under_way one.kernel []) one (log_of (destination on from home) key [] world steps) (space_after (destination on from home) world steps)
+steps-end on from home source world key one steps it at followed =
+    every-ends (destination on from home) on.object home HasRun (λ world key state step it then follows. state-next on from home source world key state step it follows) world key (free [] one at) steps (all-run world steps it) followed
+
+pub steps-logged : (at : Running) (key : ℕ) (steps : List Step) → AreFollowed (destination at.on at.from at.one.object.space) key [] at.world steps → AreLogged (destination at.on at.from at.one.object.space) at.one key at.world steps
 steps-logged at key steps followed =
-    logged-from at.one _ _
-    (steps-written (record { world = at.world; reached = at.reached; ran = at.ran; calls = []; one = at.one; same = at.same; told = at.quiet; on = at.on; own = at.own; from = at.from; source = at.source }) at.one.object.space key steps followed tt refl)
+    logged-from at.one at.on.object _ _ at.own
+    (steps-end at.on at.from at.one.object.space at.source at.world key at.one steps (at.reached, at.ran) (record { same = at.same; told = at.quiet; below = tt; own = at.own; there = refl }) followed)

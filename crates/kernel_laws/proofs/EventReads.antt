@@ -318,13 +318,13 @@ no-faults faults name none =
     let test = λ (fault : Fault). eqb fault.object name && is_unread fault.phase in
     sym (length-filter test faults) ∙ none-headed (filter test faults) (sym (first-unread faults name) ∙ none)
 
-pub takes-event : (kernel : Kernel) (key name : ℕ) (object : Object) (message : LogMessage) (found : Option (ℕ × Bool)) (after : Kernel) → is_fault message ≡ false → unread_faults kernel.faults name ≡ 0 →
-    teller kernel name message kernel.calls false ≡ found → event_taken kernel message found ≡ Some after → message_taken kernel key name object message 0 ≡ Some after
-takes-event kernel key name object (log.Fault addr flags thread) found after event none is taken = absurd (false≢true (sym event))
-takes-event kernel key name object (log.Fork child) found after event none is taken = rw (none, is) taken
-takes-event kernel key name object (log.Remap from to len) found after event none is taken = rw (none, is) taken
-takes-event kernel key name object (log.Remove start end) found after event none is taken = rw (none, is) taken
-takes-event kernel key name object (log.Unmap start end) found after event none is taken = rw (none, is) taken
+pub takes-event : (kernel : Kernel) (key : ℕ) (reader : Option ℕ) (name : ℕ) (object : Object) (message : LogMessage) (found : Option (ℕ × Bool)) (after : Kernel) → is_fault message ≡ false → unread_faults kernel.faults name ≡ 0 →
+    teller kernel name message kernel.calls false ≡ found → event_taken kernel message found ≡ Some after → message_taken kernel key reader name object message 0 ≡ Some after
+takes-event kernel key reader name object (log.Fault addr flags thread) found after event none is taken = absurd (false≢true (sym event))
+takes-event kernel key reader name object (log.Fork child) found after event none is taken = rw (none, is) taken
+takes-event kernel key reader name object (log.Remap from to len) found after event none is taken = rw (none, is) taken
+takes-event kernel key reader name object (log.Remove start end) found after event none is taken = rw (none, is) taken
+takes-event kernel key reader name object (log.Unmap start end) found after event none is taken = rw (none, is) taken
 
 no-fault : (message : LogMessage) → is_same_event message message ≡ true → is_fault message ≡ false
 no-fault (log.Fault addr flags thread) is = absurd (false≢true is)
@@ -338,15 +338,15 @@ abbrev queued_by : Kernel → ℕ → Kernel
 queued_by kernel call = record kernel { queued = call ∷ [] }
 
 -- the message of an event, and the rest of what is unread
-taken-by : (one : Counterparts) (key : ℕ) (room : Option ℕ) (noted : Noted) (rest : List Noted) → AreUntold one.name (telling one.kernel) (noted ∷ rest) → (first : First (telling one.kernel) one.name one.kernel.calls) (events : List Untold) (spans : List Span) →
+taken-by : (one : Counterparts) (key : ℕ) (reader room : Option ℕ) (noted : Noted) (rest : List Noted) → AreUntold one.name (telling one.kernel) (noted ∷ rest) → (first : First (telling one.kernel) one.name one.kernel.calls) (events : List Untold) (spans : List Span) →
     one.space.object.enabled ≡ true → has_room_for 1 room ≡ true → is_told_all one.kernel first.key ≡ false → is_fault first.message ≡ false →
     is_next_of (queued_by one.kernel first.key) one.name first.key first.message (first_event one.kernel.events first.key) ≡ true →
     event_read (queued_by one.kernel first.key) first.key first.message (first_event one.kernel.events first.key)
     ≡ record one.kernel { queued = numbers_without (first.key ∷ []) first.key; events = events; untold = spans } →
     have_ranks events ≡ true → list_any (is_of_another one.name) events ≡ false → messages_of (record (telling one.kernel) { events = events; untold = spans }) first.key ≡ first.rest →
     ((other : ℕ) → eqb first.key other ≡ false → messages_of (record (telling one.kernel) { events = events; untold = spans }) other ≡ messages_of (telling one.kernel) other) →
-    Takes (reads_event one first.key key room noted.message) (requeued one.space one.space.object.faults rest) one.name
-taken-by one key room noted rest are first events spans enabled fits left event next read_is ranks own after same =
+    Takes (reads_event one first.key key reader room noted.message) (requeued one.space one.space.object.faults rest) one.name
+taken-by one key reader room noted rest are first events spans enabled fits left event next read_is ranks own after same =
     let kernel = one.kernel in
     let name = one.name in
     let call = first.key in
@@ -358,14 +358,14 @@ taken-by one key room noted rest are first events spans enabled fits left event 
     let new = noted_if apart RemoveOfEachArea inner in
     let queued_as : is_queued_as now name first.message call ≡ true = λ i. (eqb-self call i || false) && next i in
     let told = first.told now queued_as (λ other h. ap (λ b. b || false) h) (λ other h. untold-any name (telling kernel) (noted ∷ rest) other are ∙ ap (λ l. not (is_empty l)) h) in
-    let took : message_taken now key name one.object first.message 0 ≡ Some new =
-    takes-event now key name one.object first.message (Some (call, false)) new event (no-faults kernel.faults name agree.unread.none_queued) told (ap (λ k. Some (noted_if apart RemoveOfEachArea k)) read_is) in
+    let took : message_taken now key reader name one.object first.message 0 ≡ Some new =
+    takes-event now key reader name one.object first.message (Some (call, false)) new event (no-faults kernel.faults name agree.unread.none_queued) told (ap (λ k. Some (noted_if apart RemoveOfEachArea k)) read_is) in
     let is : first.message ≡ message_of noted.message = same-head first.message (message_of noted.message) first.others _ (sym first.head ∙ are.same) in
     record {
       kernel = new;
       object = one.object;
-      taken = ap (λ o. then_taken o (λ queued. read queued key name one.object room (message_of noted.message ∷ []) (Value 1))) (queues-it kernel call (is_told_all kernel call) kernel.queued are.none_queued left)
-          ∙ takes-read now new key name one.object room (message_of noted.message) (is-enabled agree ∙ enabled) fits (subst (λ m. message_taken now key name one.object m 0 ≡ Some new) is took);
+      taken = ap (λ o. then_taken o (λ queued. read queued key reader name one.object room (message_of noted.message ∷ []) (Value 1))) (queues-it kernel call (is_told_all kernel call) kernel.queued are.none_queued left)
+          ∙ takes-read now new key reader name one.object room (message_of noted.message) (is-enabled agree ∙ enabled) fits (subst (λ m. message_taken now key reader name one.object m 0 ≡ Some new) is took);
       agree = agree-noted apart RemoveOfEachArea (requeued one.space one.space.object.faults rest) inner name one.object
           (record {
             sound = sound-requeued one.space one.space.object.faults rest agree.sound;
@@ -390,10 +390,10 @@ own-next name key events next more own is =
     let none = sym (ap (list_any (is_of_another name)) is) ∙ none-filter (λ (one : Untold). eqb one.key key) (is_of_another name) events own in
     own-both (eqb next.object name) (is_same_event next.message next.message) (or_first (is_of_another name next) (list_any (is_of_another name) more) none)
 
-event-next : (one : Counterparts) (key : ℕ) (room : Option ℕ) (noted : Noted) (rest : List Noted) → (are : AreUntold one.name (telling one.kernel) (noted ∷ rest)) (first : First (telling one.kernel) one.name one.kernel.calls) (next : Untold) (more : List Untold) →
+event-next : (one : Counterparts) (key : ℕ) (reader room : Option ℕ) (noted : Noted) (rest : List Noted) → (are : AreUntold one.name (telling one.kernel) (noted ∷ rest)) (first : First (telling one.kernel) one.name one.kernel.calls) (next : Untold) (more : List Untold) →
     one.space.object.enabled ≡ true → has_room_for 1 room ≡ true → is_told_all one.kernel first.key ≡ false → filter (λ (event : Untold). eqb event.key first.key) one.kernel.events ≡ next ∷ more →
-    Takes (reads_event one first.key key room noted.message) (requeued one.space one.space.object.faults rest) one.name
-event-next one key room noted rest are first next more enabled fits left is =
+    Takes (reads_event one first.key key reader room noted.message) (requeued one.space one.space.object.faults rest) one.name
+event-next one key reader room noted rest are first next more enabled fits left is =
     let kernel = one.kernel in
     let call = first.key in
     let messages = λ (events : List Untold). map (λ (event : Untold). event.message) events ++ removes (span_of kernel.untold call) in
@@ -402,7 +402,7 @@ event-next one key room noted rest are first next more enabled fits left is =
     let mine = own-next one.name call kernel.events next more are.own is in
     let found : first_event kernel.events call ≡ Some next = next-event kernel.events call ∙ ap head_of is in
     let events = filter (λ event. not (is_read call next.rank event)) kernel.events in
-    taken-by one key room noted rest are first events kernel.untold enabled fits left
+    taken-by one key reader room noted rest are first events kernel.untold enabled fits left
     (subst (λ m. is_fault m ≡ false) message (no-fault next.message mine.1))
     (ap (is_next_of (queued_by kernel call) one.name call first.message) found ∙ (λ i. mine.0 i && (sym (ap (is_same_event next.message) message) ∙ mine.1) i))
     (ap (event_read (queued_by kernel call) call first.message) found)
@@ -456,33 +456,33 @@ at-most-self : (n : ℕ) → leb n n ≡ true
 at-most-self n = grind (arith, nat_tests)
 
 -- the REMOVE of a span, as a log has it
-abbrev remove_of : Span → LogMessage
+abbrev pub remove_of : Span → LogMessage
 remove_of span = log.Remove (4096 * span.first) (4096 * span.end)
 
-is-remove : (kernel : Kernel) (name call : ℕ) (span : Span) → tells_object kernel call name ≡ true → watches_within kernel name span.space span.first span.end ≡ true →
+pub is-remove : (kernel : Kernel) (name call : ℕ) (span : Span) → tells_object kernel call name ≡ true → watches_within kernel name span.space span.first span.end ≡ true →
     is_remove_of kernel name call (4096 * span.first / 4096) (4096 * span.end / 4096) span ≡ true
 is-remove kernel name call span tells watched =
     (λ i. is_remove_of kernel name call (pages_again span.first i) (pages_again span.end i) span)
     ∙ six (leb span.first span.first) (ltb span.first span.end) (leb span.end span.end) (tells_object kernel call name) (tells_within kernel call span.space span.first span.first) (watches_within kernel name span.space span.first span.end)
     (at-most-self span.first) (watched-below kernel name span.space span.first span.end watched) (at-most-self span.end) tells (told-nowhere kernel call span.space span.first) watched
 
-removed : (kernel : Kernel) (call : ℕ) (span : Span) → removes_left kernel call (remove_of span) (Some span) ≡ spans_without kernel.untold call
+pub removed : (kernel : Kernel) (call : ℕ) (span : Span) → removes_left kernel call (remove_of span) (Some span) ≡ spans_without kernel.untold call
 removed kernel call span =
     ap (λ n. spans_without kernel.untold call ++ cond (tells_within kernel call span.space n span.end) (record span { first = n } ∷ []) []) (pages_again span.end)
     ∙ ap (λ b. spans_without kernel.untold call ++ cond b (record span { first = span.end } ∷ []) []) (told-nowhere kernel call span.space span.end)
     ∙ append-nil (spans_without kernel.untold call)
 
-remove-next : (one : Counterparts) (key : ℕ) (room : Option ℕ) (noted : Noted) (rest : List Noted) → (are : AreUntold one.name (telling one.kernel) (noted ∷ rest)) (first : First (telling one.kernel) one.name one.kernel.calls) (span : Span) →
+remove-next : (one : Counterparts) (key : ℕ) (reader room : Option ℕ) (noted : Noted) (rest : List Noted) → (are : AreUntold one.name (telling one.kernel) (noted ∷ rest)) (first : First (telling one.kernel) one.name one.kernel.calls) (span : Span) →
     one.space.object.enabled ≡ true → has_room_for 1 room ≡ true → is_told_all one.kernel first.key ≡ false → filter (λ (event : Untold). eqb event.key first.key) one.kernel.events ≡ [] → span_of one.kernel.untold first.key ≡ Some span →
-    watches_within one.kernel one.name span.space span.first span.end ≡ true → tells_object one.kernel first.key one.name ≡ true → Takes (reads_event one first.key key room noted.message) (requeued one.space one.space.object.faults rest) one.name
-remove-next one key room noted rest are first span enabled fits left is spans watched tells =
+    watches_within one.kernel one.name span.space span.first span.end ≡ true → tells_object one.kernel first.key one.name ≡ true → Takes (reads_event one first.key key reader room noted.message) (requeued one.space one.space.object.faults rest) one.name
+remove-next one key reader room noted rest are first span enabled fits left is spans watched tells =
     let kernel = one.kernel in
     let call = first.key in
     let now = queued_by kernel call in
     let same : remove_of span ∷ [] ≡ first.message ∷ first.rest = sym (λ i. map (λ (event : Untold). event.message) (is i) ++ removes (spans i)) ∙ first.has in
     let message = same-head (remove_of span) first.message [] first.rest same in
     let found : first_event kernel.events call ≡ None = next-event kernel.events call ∙ ap head_of is in
-    taken-by one key room noted rest are first kernel.events (spans_without kernel.untold call) enabled fits left (ap is_fault (sym message))
+    taken-by one key reader room noted rest are first kernel.events (spans_without kernel.untold call) enabled fits left (ap is_fault (sym message))
     (ap (is_next_of now one.name call first.message) found
     ∙ (λ i. is_next_remove now one.name call (sym message i) (spans i))
     ∙ is-remove now one.name call span tells watched)
@@ -494,27 +494,27 @@ remove-next one key room noted rest are first span enabled fits left is spans wa
 
 -- The first of both
 
-event-by : (one : Counterparts) (key : ℕ) (room : Option ℕ) (noted : Noted) (rest : List Noted) → (are : AreUntold one.name (telling one.kernel) (noted ∷ rest)) (first : First (telling one.kernel) one.name one.kernel.calls) (events : List Untold) (span : Option Span) →
+event-by : (one : Counterparts) (key : ℕ) (reader room : Option ℕ) (noted : Noted) (rest : List Noted) → (are : AreUntold one.name (telling one.kernel) (noted ∷ rest)) (first : First (telling one.kernel) one.name one.kernel.calls) (events : List Untold) (span : Option Span) →
     one.space.object.enabled ≡ true → AreWatched one → has_room_for 1 room ≡ true → filter (λ (event : Untold). eqb event.key first.key) one.kernel.events ≡ events → span_of one.kernel.untold first.key ≡ span →
-    Takes (reads_event one first.key key room noted.message) (requeued one.space one.space.object.faults rest) one.name
-event-by one key room noted rest are first events span enabled watched fits is spans =
+    Takes (reads_event one first.key key reader room noted.message) (requeued one.space one.space.object.faults rest) one.name
+event-by one key reader room noted rest are first events span enabled watched fits is spans =
     let some : is_empty (messages_of (telling one.kernel) first.key) ≡ false = ap is_empty first.has in
     let tells = are.tells first.key some in
     let left = left-to-tell one.kernel first.key one.name events span is spans (sym (λ i. is_empty (map (λ (event : Untold). event.message) (is i) ++ removes (spans i))) ∙ some) tells in
     by events span is spans left some tells
   where
     by : (events : List Untold) (span : Option Span) → filter (λ (event : Untold). eqb event.key first.key) one.kernel.events ≡ events → span_of one.kernel.untold first.key ≡ span → is_told_all one.kernel first.key ≡ false →
-        is_empty (messages_of (telling one.kernel) first.key) ≡ false → tells_object one.kernel first.key one.name ≡ true → Takes (reads_event one first.key key room noted.message) (requeued one.space one.space.object.faults rest) one.name
+        is_empty (messages_of (telling one.kernel) first.key) ≡ false → tells_object one.kernel first.key one.name ≡ true → Takes (reads_event one first.key key reader room noted.message) (requeued one.space one.space.object.faults rest) one.name
     by [] None is spans left some tells = absurd (false≢true (sym some ∙ (λ i. is_empty (map (λ (event : Untold). event.message) (is i) ++ removes (spans i)))))
-    by [] (Some span) is spans left some tells = remove-next one key room noted rest are first span enabled fits left is spans (watched first.key span spans) tells
-    by (next ∷ more) span is spans left some tells = event-next one key room noted rest are first next more enabled fits left is
+    by [] (Some span) is spans left some tells = remove-next one key reader room noted rest are first span enabled fits left is spans (watched first.key span spans) tells
+    by (next ∷ more) span is spans left some tells = event-next one key reader room noted rest are first next more enabled fits left is
 
-pub event-taken : (one : Counterparts) (key : ℕ) (room : Option ℕ) (noted : Noted) (rest : List Noted) → one.space.object.enabled ≡ true → one.space.object.events ≡ noted ∷ rest → AreWatched one → has_room_for 1 room ≡ true →
-    (call : ℕ) × Takes (reads_event one call key room noted.message) (requeued one.space one.space.object.faults rest) one.name
-event-taken one key room noted rest enabled events watched fits =
+pub event-taken : (one : Counterparts) (key : ℕ) (reader room : Option ℕ) (noted : Noted) (rest : List Noted) → one.space.object.enabled ≡ true → one.space.object.events ≡ noted ∷ rest → AreWatched one → has_room_for 1 room ≡ true →
+    (call : ℕ) × Takes (reads_event one call key reader room noted.message) (requeued one.space one.space.object.faults rest) one.name
+event-taken one key reader room noted rest enabled events watched fits =
     let are : AreUntold one.name (telling one.kernel) (noted ∷ rest) = subst (AreUntold one.name (telling one.kernel)) events one.agree.untold in
     let first = first-of (telling one.kernel) one.name one.kernel.calls are.once (ap is_empty are.same) in
-    (first.key, event-by one key room noted rest are first _ _ enabled watched fits refl refl)
+    (first.key, event-by one key reader room noted rest are first _ _ enabled watched fits refl refl)
 
 pub read-event : (space : Space) (noted : Noted) (rest : List Noted) → space.object.enabled ≡ true → space.object.faults ≡ [] → space.object.events ≡ noted ∷ rest → read_space space ≡ requeued space space.object.faults rest
 read-event space noted rest enabled none events = rw (enabled, none, events) refl

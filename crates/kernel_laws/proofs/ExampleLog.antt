@@ -1,6 +1,7 @@
 -- The log of the example, step by step.
-use Rattle.std.proofs.Common.{◌≡◌, ℕ, ◌||◌, Bool, true, false, cond, Option, Some, None, List, [], ◌∷◌, refl, sym, ap, subst, ◌∙◌, arith}
-use Rattle.std.specs.Prelude.{IsOk, Ok, is_some}
+use Rattle.std.proofs.lemmas.Bool.{false≢true}
+use Rattle.std.proofs.Common.{◌≡◌, ℕ, ◌+◌, ◌&&◌, ◌||◌, Bool, true, false, cond, Option, Some, None, List, [], ◌∷◌, refl, sym, ap, subst, ◌∙◌, arith}
+use Rattle.std.specs.Prelude.{IsOk, Result, Ok, is_some}
 use Rattle.std.specs.Ordering.{nat_cmp}
 use Rattle.std.specs.FinMap as finmap
 use Rattle.std.specs.FinMap.{get, get-empty}
@@ -10,26 +11,31 @@ use Rattle.mig_base.specs.declared.Prot.TheVariants.{ReadWrite}
 use Rattle.mig_base.specs.declared.Run.{Run}
 use Rattle.mig_base.specs.declared.command.Command.{Command}
 use Rattle.mig_base.specs.declared.effect.Effect.{Effect}
+use Rattle.mig_base.specs.declared.refusal.Refusal.{Refusal}
 use Rattle.mig_base.specs.declared.schedule.Step.{Step}
 use Rattle.mig_base.specs.Bits.{is_one}
 use Rattle.mig_base.specs.Commands.{is_access}
 use Rattle.mig_base.specs.Ranges.{in_range}
+use Rattle.mig_base.specs.Userfault.{Noted, next_message}
 use Rattle.mig_base.proofs.PageLemmas.{get-set_range}
 use Rattle.mig_model.specs.Handlers.{AreRunsOf}
 use Rattle.mig_model.specs.Lengths.{text_len}
 use Rattle.mig_model.specs.Migration.{World, answer, first_world, made, next, next_by, outcome, outcome_by}
 use Rattle.mig_model.specs.Promises.{AreAccepted, IsReached}
+use Rattle.mig_model.specs.Space.{Space}
 use Rattle.mig_model.specs.Wire.{Frame}
 use Rattle.mig_model.proofs.steps.ReachedLemmas.{reached-next}
 use Rattle.mig_base.specs.declared.message.Message.{Message}
 use Rattle.mig_model.specs.Ioctls.{all_features}
 use Rattle.uffd_log.specs.declared.call.Call.TheVariants as call
+use Rattle.uffd_log.specs.declared.call.Descriptor.{Descriptor}
 use Rattle.uffd_log.specs.declared.call.Message.TheVariants.{Fault}
 use Rattle.uffd_log.specs.declared.line.Answer.TheVariants.{Value}
 use Rattle.kernel_rules.specs.Ioctls.{has_calls, is_offer}
 use Rattle.kernel_laws.specs.Example.{IsOfDestination, its_calls, its_descriptor}
-use Rattle.kernel_laws.specs.Logs.{AreFollowed, Arrival, Ended, HaveNoMapCalls, IsFollowed, IsNoMapCall, Node, Written, answered, calls_written, destination, destination_writes, first_calls, is_followed, log_of, read_written, then_written, whole_log}
+use Rattle.kernel_laws.specs.Logs.{AreFollowed, Arrival, Ended, HaveNoMapCalls, IsFollowed, IsNoMapCall, Node, Written, answered, calls_written, destination, destination_writes, event_written, first_calls, is_followed, issue_written, keeps_off_all, log_of, read_written, then_written, whole_log}
 use Rattle.kernel_laws.proofs.LogRuns.{no_thread_ids}
+use Rattle.kernel_laws.proofs.MapRuns.{no-map-call}
 use Rattle.kernel_laws.proofs.ExampleWorlds.{carried, discard_frame, eighth-step, eleventh-step, fifth-step, first-step, fourth-step, loading, mapping, ninth-step, owed, package_frame, retried, second-step, seventh-step, sixth-step, stored, storing, tenth-step, third-step, thirteenth-step, twelfth-step, w1, w2, w3, w4, w5, w6, w7, w8, w9, w10, w11, w12, w13}
 
 -- A step that is made
@@ -89,7 +95,7 @@ offer-is : is_offer all_features 0x8000000000000003 ≡ true
 unfolding is_one
 offer-is = refl
 
-calls-are : has_calls 0xc ≡ true
+calls-are : has_calls 1 0xc ≡ true
 unfolding is_one
 calls-are = refl
 
@@ -180,21 +186,40 @@ are-accepted =
     (accepted w11 w12 (Step.Deliver (text_len carried)) from_install _ twelfth-step
     (accepted w12 w13 Step.Install from_retry (Effect.Installed 0x10000 0x10000) thirteenth-step (retried, tt))))))
 
--- steps without map calls neither move nor clear pages
-one-followed : (step : Step) → IsNoMapCall step → IsFollowed step
-one-followed (Step.Issue cpu command) access = by command access where
-  by : (command : Command) → is_access command ≡ true → is_followed command ≡ true
+-- steps without map calls are followed, and none is under way
+one-followed : (space : Space) (world : World) (step : Step) → IsNoMapCall step → IsFollowed space [] world step
+one-followed space world (Step.Issue cpu command) access = by command access where
+  by : (command : Command) → is_access command ≡ true → (is_followed command && keeps_off_all space command []) ≡ true
   by (Command.Load addr width) is = refl
   by (Command.Store addr width value) is = refl
   by (Command.Mmap len prot place) is = refl
   by (Command.Munmap addr len) is = refl
   by (Command.Mremap addr old_len new_len may_move fixed) is = is
-  by (Command.DontNeed addr len) is = is
-one-followed step access = tt
+  by (Command.DontNeed addr len) is = absurd (false≢true is)
+one-followed space world (Step.Retry cpu) access = λ command waits. refl
+one-followed space world step access = tt
 
-pub all-followed : (steps : List Step) → HaveNoMapCalls steps → AreFollowed steps
-all-followed [] none = tt
-all-followed (step ∷ steps) none = (one-followed step none.0, all-followed steps none.1)
+none-read : (on : Descriptor) (key : ℕ) (next : Option Noted) → (read_written on key [] next).begun ≡ []
+none-read on key None = refl
+none-read on key (Some noted) = by noted.message where
+  by : (message : Message) → (event_written on (key + 1) [] message).begun ≡ []
+  by (Message.PageFault addr write wp tid) = refl
+  by (Message.Remap from to len) = refl
+  by (Message.Remove start end) = refl
+  by (Message.Unmap start end) = refl
+
+none-begun : (on : Descriptor) (from home key : ℕ) (world : World) (step : Step) (result : Result Effect Refusal) → IsNoMapCall step → (destination_writes on from home key [] world step result).begun ≡ []
+none-begun on from home key world (Step.Issue cpu command) (Ok effect) access = ap (λ o. (issue_written home key [] world.destination.guest.space command o).begun) (no-map-call command access)
+none-begun on from home key world Step.DestRead (Ok effect) access = none-read on key (next_message world.destination.guest.space.object)
+none-begun on from home key world step result access = refl
+
+pub all-followed : (on : Descriptor) (from home key : ℕ) (world : World) (steps : List Step) → HaveNoMapCalls steps → AreFollowed (destination on from home) key [] world steps
+all-followed on from home key world [] none = tt
+all-followed on from home key world (step ∷ steps) none =
+    let written = (destination on from home).writes key [] world step in (
+      one-followed world.destination.guest.space world step none.0,
+      subst (λ begun. AreFollowed (destination on from home) written.key begun (next world step) steps) (sym (none-begun on from home key world step (outcome world step) none.0)) (all-followed on from home written.key (next world step) steps none.1),
+    )
 
 pub its : IsOfDestination (calls_written 0 [] its_calls)
 its =

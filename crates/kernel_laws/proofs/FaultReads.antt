@@ -28,6 +28,7 @@ use Rattle.kernel_rules.specs.State.{Kernel, allowed, is_enabled, noted_if}
 use Rattle.kernel_rules.proofs.Steps.{queues_is}
 use Rattle.kernel_laws.specs.Agreement.{Agree, AgreesAt, AreUnread, Takes, is_message_of, message_of, number_of, telling}
 use Rattle.kernel_laws.specs.Logs.{AreLate, is_late}
+use Rattle.kernel_laws.specs.Reading.{is_of_reader}
 use Rattle.kernel_laws.proofs.Kernels.{is-enabled}
 use Rattle.kernel_laws.proofs.Waiting.{first_unread-append, gone, unread-read}
 
@@ -39,7 +40,7 @@ requeued space faults events = record space { object = record space.object { fau
 pub page-requeued : (space : Space) (faults events : List Noted) (name page : ℕ) (found : Option Page) → AgreesAt space name page found → AgreesAt (requeued space faults events) name page found
 page-requeued space faults events name page None agrees = agrees
 page-requeued space faults events name page (Some one) agrees =
-    record { object = agrees.object; missing = agrees.missing; protect = agrees.protect; registered = agrees.registered; absent = agrees.absent; present = agrees.present; guarded = agrees.guarded }
+    record { object = agrees.object; missing = agrees.missing; protect = agrees.protect; registered = agrees.registered; absent = agrees.absent; present = agrees.present; whole = agrees.whole; plain = agrees.plain; guarded = agrees.guarded }
 
 pub sound-requeued : (space : Space) (faults events : List Noted) → IsSoundSpace space → IsSoundSpace (requeued space faults events)
 sound-requeued space faults events sound = record { host = sound.host; mapped = sound.mapped; present = sound.present; watched = sound.watched }
@@ -100,17 +101,17 @@ read_by kernel key object fault =
       faults = faults_without kernel.faults fault.thread ++ record fault { phase = Asleep; read_by = cond (must_wait kernel object.space fault) (Some key) None } ∷ [];
     }
 
-takes-message : (kernel : Kernel) (key name : ℕ) (object : Object) (fault : Fault) (message : LogMessage) → first_unread kernel.faults name ≡ Some fault → is_message_of object fault message ≡ true →
-    message_taken kernel key name object message 0 ≡ Some (read_by kernel key object fault)
-takes-message kernel key name object fault (log.Fault addr flags thread) first is = rw (first, is) refl
-takes-message kernel key name object fault (log.Fork child) first is = absurd (false≢true is)
-takes-message kernel key name object fault (log.Remap from to len) first is = absurd (false≢true is)
-takes-message kernel key name object fault (log.Remove start end) first is = absurd (false≢true is)
-takes-message kernel key name object fault (log.Unmap start end) first is = absurd (false≢true is)
+takes-message : (kernel : Kernel) (key : ℕ) (reader : Option ℕ) (name : ℕ) (object : Object) (fault : Fault) (message : LogMessage) → first_unread kernel.faults name ≡ Some fault → is_message_of object fault message ≡ true → is_of_reader reader message ≡ false →
+    message_taken kernel key reader name object message 0 ≡ Some (read_by kernel key object fault)
+takes-message kernel key reader name object fault (log.Fault addr flags thread) first is other = rw (first, is, other) refl
+takes-message kernel key reader name object fault (log.Fork child) first is other = absurd (false≢true is)
+takes-message kernel key reader name object fault (log.Remap from to len) first is other = absurd (false≢true is)
+takes-message kernel key reader name object fault (log.Remove start end) first is other = absurd (false≢true is)
+takes-message kernel key reader name object fault (log.Unmap start end) first is other = absurd (false≢true is)
 
-pub takes-read : (kernel after : Kernel) (key name : ℕ) (object : Object) (room : Option ℕ) (message : LogMessage) → is_enabled object ≡ true → has_room_for 1 room ≡ true → message_taken kernel key name object message 0 ≡ Some after →
-    read kernel key name object room (message ∷ []) (Value 1) ≡ Some after
-takes-read kernel after key name object room message enabled fits taken = rw (enabled, fits, taken) refl
+pub takes-read : (kernel after : Kernel) (key : ℕ) (reader : Option ℕ) (name : ℕ) (object : Object) (room : Option ℕ) (message : LogMessage) → is_enabled object ≡ true → has_room_for 1 room ≡ true → message_taken kernel key reader name object message 0 ≡ Some after →
+    read kernel key reader name object room (message ∷ []) (Value 1) ≡ Some after
+takes-read kernel after key reader name object room message enabled fits taken = rw (enabled, fits, taken) refl
 
 -- the address space of an object
 abbrev pub home_of : Option Object → Option ℕ
@@ -157,19 +158,19 @@ no-twin faults name fault watched none =
     none-unread (is_twin fault) name (λ other h. subst (λ n. (eqb other.object n && is_unread other.phase) ≡ true) watched (twin-unread (is_unread other.phase) (eqb other.object fault.object) (eqb other.page fault.page) _ h)) faults none
 
 -- a thread queues its fault, and it is read
-pub record IsRead (kernel : Kernel) (key name : ℕ) (object : Object) (room : Option ℕ) (message : LogMessage) (space : Space) : Type 0 where
+pub record IsRead (kernel : Kernel) (key : ℕ) (reader : Option ℕ) (name : ℕ) (object : Object) (room : Option ℕ) (message : LogMessage) (space : Space) : Type 0 where
   pub thread : ℕ
   pub now : Kernel
   pub new : Kernel
   pub queued : queues kernel thread ≡ Some now
   pub named : now.objects name ≡ Some object
-  pub taken : read now key name object room (message ∷ []) (Value 1) ≡ Some new
+  pub taken : read now key reader name object room (message ∷ []) (Value 1) ≡ Some new
   pub keeps : Keeps kernel new
   pub agree : Agree space new name object
 
-pub fault-read : (space : Space) (kernel : Kernel) (key name : ℕ) (object : Object) (room : Option ℕ) (noted : Noted) (rest : List Noted) → Agree space kernel name object → space.object.enabled ≡ true → space.object.faults ≡ noted ∷ rest →
-    has_room_for 1 room ≡ true → IsRead kernel key name object room (message_of noted.message) (requeued space rest space.object.events)
-fault-read space kernel key name object room noted rest agree enabled faults fits =
+pub fault-read : (space : Space) (kernel : Kernel) (key : ℕ) (reader : Option ℕ) (name : ℕ) (object : Object) (room : Option ℕ) (noted : Noted) (rest : List Noted) → Agree space kernel name object → space.object.enabled ≡ true → space.object.faults ≡ noted ∷ rest →
+    has_room_for 1 room ≡ true → is_of_reader reader (message_of noted.message) ≡ false → IsRead kernel key reader name object room (message_of noted.message) (requeued space rest space.object.events)
+fault-read space kernel key reader name object room noted rest agree enabled faults fits other =
     let unread : AreUnread kernel.faults name object (noted ∷ rest) = subst (AreUnread kernel.faults name object) faults agree.unread in
     let fault = unread.on_their_way.0 in
     let way = unread.on_their_way.1 in
@@ -195,20 +196,20 @@ fault-read space kernel key name object room noted rest agree enabled faults fit
       new = new;
       queued = is-queued kernel name object fault agree.named way.watched way.found way.seen;
       named = agreed.named;
-      taken = takes-read now new key name object room (message_of noted.message) (is-enabled agree ∙ enabled) fits (takes-message now key name object told (message_of noted.message) first way.told);
+      taken = takes-read now new key reader name object room (message_of noted.message) (is-enabled agree ∙ enabled) fits (takes-message now key reader name object told (message_of noted.message) first way.told other);
       keeps = record { told = kept.told; homes = kept.homes; differs = kept.differs };
       agree = agree-requeued space now name object kernel.faults new.faults rest agreed left;
     }
 
-pub fault-taken : (space : Space) (kernel : Kernel) (key name : ℕ) (object : Object) (room : Option ℕ) (noted : Noted) (rest : List Noted) → Agree space kernel name object → space.object.enabled ≡ true → space.object.faults ≡ noted ∷ rest →
-    has_room_for 1 room ≡ true → (thread : ℕ) × Takes (then_taken (queues kernel thread) (λ queued. read queued key name object room (message_of noted.message ∷ []) (Value 1))) (requeued space rest space.object.events) name
-fault-taken space kernel key name object room noted rest agree enabled faults fits =
-    let it = fault-read space kernel key name object room noted rest agree enabled faults fits in (
+pub fault-taken : (space : Space) (kernel : Kernel) (key : ℕ) (reader : Option ℕ) (name : ℕ) (object : Object) (room : Option ℕ) (noted : Noted) (rest : List Noted) → Agree space kernel name object → space.object.enabled ≡ true → space.object.faults ≡ noted ∷ rest →
+    has_room_for 1 room ≡ true → is_of_reader reader (message_of noted.message) ≡ false → (thread : ℕ) × Takes (then_taken (queues kernel thread) (λ queued. read queued key reader name object room (message_of noted.message ∷ []) (Value 1))) (requeued space rest space.object.events) name
+fault-taken space kernel key reader name object room noted rest agree enabled faults fits other =
+    let it = fault-read space kernel key reader name object room noted rest agree enabled faults fits other in (
       it.thread,
       record {
         kernel = it.new;
         object = object;
-        taken = ap (λ o. then_taken o (λ queued. read queued key name object room (message_of noted.message ∷ []) (Value 1))) it.queued ∙ it.taken;
+        taken = ap (λ o. then_taken o (λ queued. read queued key reader name object room (message_of noted.message ∷ []) (Value 1))) it.queued ∙ it.taken;
         agree = it.agree;
       },
     )
@@ -229,25 +230,25 @@ fails enabled some waits unread room he hw hu = grind (arith, nat_tests)
 unenabled : (enabled room : Bool) → enabled ≡ false → (not enabled || not room) ≡ true
 unenabled enabled room he = grind (arith, nat_tests)
 
-failed : (kernel : Kernel) (key name : ℕ) (object : Object) (room : Option ℕ) (errno other : Errno) (space : Space) → Agree space kernel name object → Some errno ≡ Some other → read_failed kernel name object room (number_of errno) ≡ true →
-    Takes (read kernel key name object room [] (Failed (number_of other) None)) space name
-failed kernel key name object room errno other space agree same is =
+failed : (kernel : Kernel) (key : ℕ) (reader : Option ℕ) (name : ℕ) (object : Object) (room : Option ℕ) (errno other : Errno) (space : Space) → Agree space kernel name object → Some errno ≡ Some other → read_failed kernel name object room (number_of errno) ≡ true →
+    Takes (read kernel key reader name object room [] (Failed (number_of other) None)) space name
+failed kernel key reader name object room errno other space agree same is =
     record {
       kernel = kernel;
       object = object;
-      taken = ap (λ e. read kernel key name object room [] (Failed (number_of e) None)) (sym (same_Some errno other same)) ∙ ap (λ b. allowed b kernel) is;
+      taken = ap (λ e. read kernel key reader name object room [] (Failed (number_of e) None)) (sym (same_Some errno other same)) ∙ ap (λ b. allowed b kernel) is;
       agree = agree;
     }
 
-fails-by : (space : Space) (kernel : Kernel) (key name : ℕ) (object : Object) (room : Option ℕ) (errno : Errno) (enabled some : Bool) → Agree space kernel name object → object.waits ≡ false → space.object.enabled ≡ enabled →
-    first_holding ((not enabled, Errno.Einval) ∷ (not some, Errno.Eagain) ∷ []) ≡ Some errno → Takes (read kernel key name object room [] (Failed (number_of errno) None)) space name
-fails-by space kernel key name object room errno false some agree waits made is =
-    failed kernel key name object room Errno.Einval errno space agree is (unenabled (is_enabled object) (has_room_for 1 room) (is-enabled agree ∙ made))
-fails-by space kernel key name object room errno true false agree waits made is =
-    failed kernel key name object room Errno.Eagain errno space agree is
+fails-by : (space : Space) (kernel : Kernel) (key : ℕ) (reader : Option ℕ) (name : ℕ) (object : Object) (room : Option ℕ) (errno : Errno) (enabled some : Bool) → Agree space kernel name object → object.waits ≡ false → space.object.enabled ≡ enabled →
+    first_holding ((not enabled, Errno.Einval) ∷ (not some, Errno.Eagain) ∷ []) ≡ Some errno → Takes (read kernel key reader name object room [] (Failed (number_of errno) None)) space name
+fails-by space kernel key reader name object room errno false some agree waits made is =
+    failed kernel key reader name object room Errno.Einval errno space agree is (unenabled (is_enabled object) (has_room_for 1 room) (is-enabled agree ∙ made))
+fails-by space kernel key reader name object room errno true false agree waits made is =
+    failed kernel key reader name object room Errno.Eagain errno space agree is
     (fails (is_enabled object) false object.waits (has_unread kernel name) true (is-enabled agree ∙ made) waits (nothing-unread space kernel name object agree))
-fails-by space kernel key name object room errno true true agree waits made is = absurd (none-some errno is)
+fails-by space kernel key reader name object room errno true true agree waits made is = absurd (none-some errno is)
 
-pub no-message : (space : Space) (kernel : Kernel) (key name : ℕ) (object : Object) (room : Option ℕ) (errno : Errno) → Agree space kernel name object → object.waits ≡ false → read_error space ≡ Some errno →
-    Takes (read kernel key name object room [] (Failed (number_of errno) None)) space name
-no-message space kernel key name object room errno agree waits is = fails-by space kernel key name object room errno space.object.enabled (is_some (next_message space.object)) agree waits refl is
+pub no-message : (space : Space) (kernel : Kernel) (key : ℕ) (reader : Option ℕ) (name : ℕ) (object : Object) (room : Option ℕ) (errno : Errno) → Agree space kernel name object → object.waits ≡ false → read_error space ≡ Some errno →
+    Takes (read kernel key reader name object room [] (Failed (number_of errno) None)) space name
+no-message space kernel key reader name object room errno agree waits is = fails-by space kernel key reader name object room errno space.object.enabled (is_some (next_message space.object)) agree waits refl is

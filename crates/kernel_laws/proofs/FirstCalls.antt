@@ -43,7 +43,8 @@ use Rattle.kernel_laws.specs.Logs.{AreFollowed, Arrival, HasRun, answered, arriv
 use Rattle.kernel_laws.proofs.Accesses.{asked}
 use Rattle.kernel_laws.proofs.FaultReads.{Keeps, keeps-none}
 use Rattle.kernel_laws.proofs.Followed.{both_fail}
-use Rattle.kernel_laws.proofs.DestinationRuns.{steps-written}
+use Rattle.kernel_laws.proofs.States.{Free}
+use Rattle.kernel_laws.proofs.DestinationRuns.{steps-end}
 use Rattle.kernel_laws.proofs.LogRuns.{Goes, agree-returned, allowed-is, call-leads, call_steps, homes-with, leads-append, logged-rule, stays, then-logged}
 use Rattle.kernel_laws.proofs.OpenCalls.{AreBelow, HasCalls, Pending, still-below}
 use Rattle.kernel_laws.proofs.Registers.{api-taken, register-taken}
@@ -54,7 +55,7 @@ abbrev bare_space : Host → Space
 bare_space host = record fresh_space { host = host }
 
 abbrev pub opened_object : Object
-opened_object = record { space = 0; waits = false; features = None; puts = false }
+opened_object = record { space = 0; program = 0; waits = false; features = None; puts = false }
 
 abbrev pub opened_kernel : ℕ → Kernel
 opened_kernel name = with_object fresh_kernel name opened_object
@@ -133,7 +134,7 @@ mapped-run space run areas mapped page inside =
     mapped page
     (or_left (in_range run.first run.count page) (in_runs areas page) (sym (λ i. in_range (pages_again run.first i) (pages_again run.count i) page) ∙ inside))
 
-register-logged : {pending : List Pending} (one : Counterparts) (on : Descriptor) (bits calls key : ℕ) (run : Run) (areas : List Run) → AreBelow key pending → HasCalls pending one → on.object ≡ one.name → rules.has_calls calls ≡ true → register_error one.space (4096 * run.first) (4096 * run.count) bits ≡ None →
+register-logged : {pending : List Pending} (one : Counterparts) (on : Descriptor) (bits calls key : ℕ) (run : Run) (areas : List Run) → AreBelow key pending → HasCalls pending one → on.object ≡ one.name → rules.has_calls bits calls ≡ true → register_error one.space (4096 * run.first) (4096 * run.count) bits ≡ None →
     HaveAreas one.space (run ∷ areas) →
     Goes pending pending one (lines_of_call key (answered (call.Register on (4096 * run.first) (4096 * run.count) bits) (Value calls))) (registered one.space (4096 * run.first) (4096 * run.count) bits)
 unfolding on_object
@@ -145,7 +146,7 @@ register-logged one on bits calls key run areas below quiet own has accepted map
     (subst (λ error. Takes (rules.registered one.kernel one.name one.object start len bits (answer_of_register calls error)) new one.name) accepted
     (register-taken one.space one.kernel one.name one.object start len bits calls one.agree has (λ none. mapped-run one.space run areas mapped)))
 
-pub registers-logged : {pending : List Pending} (one : Counterparts) (on : Descriptor) (bits calls key : ℕ) (areas : List Run) → AreBelow key pending → HasCalls pending one → on.object ≡ one.name → rules.has_calls calls ≡ true → MayRegister one.space areas bits → HaveAreas one.space areas →
+pub registers-logged : {pending : List Pending} (one : Counterparts) (on : Descriptor) (bits calls key : ℕ) (areas : List Run) → AreBelow key pending → HasCalls pending one → on.object ≡ one.name → rules.has_calls bits calls ≡ true → MayRegister one.space areas bits → HaveAreas one.space areas →
     Goes pending pending one (lines_of_calls key (register_calls on bits calls areas)) (registered_in_turn one.space areas bits)
 registers-logged one on bits calls key [] below quiet own has accepted mapped = stays one one.space refl quiet
 registers-logged {pending = pending} one on bits calls key (run ∷ areas) below quiet own has accepted mapped =
@@ -160,7 +161,7 @@ registers-logged {pending = pending} one on bits calls key (run ∷ areas) below
     (then-logged one (lines_of_call key ended) (lines_of_calls (key + 1) (register_calls on bits calls areas)) (registered one.space start len bits) (registered_in_turn first.last.space areas bits) first rest)
 
 -- both
-first-logged : (one : Counterparts) (on : Descriptor) (offer calls : ℕ) (areas : List Run) (new : Space) → HasCalls [] one → on.object ≡ one.name → rules.is_offer all_features offer ≡ true → rules.has_calls calls ≡ true → one.space.object.faults ≡ [] →
+first-logged : (one : Counterparts) (on : Descriptor) (offer calls : ℕ) (areas : List Run) (new : Space) → HasCalls [] one → on.object ≡ one.name → rules.is_offer all_features offer ≡ true → rules.has_calls 1 calls ≡ true → one.space.object.faults ≡ [] →
     handshake_error one.space 0xaa event_features ≡ None → HaveAreas (handshaken one.space 0xaa event_features) areas → AreRegistered (handshaken one.space 0xaa event_features) new areas 1 →
     Goes [] [] one (lines_of_call 1 (answered (call.Api on 0xaa event_features) (Features all_features offer)) ++ lines_of_calls 2 (register_calls on 1 calls areas)) new
 first-logged one on offer calls areas new quiet own offers has none accepted mapped registered =
@@ -190,7 +191,7 @@ shaken-areas host page =
     ap (λ (h : Host). contains_key h.areas page)
     (left-host (handshake_error (bare_space host) 0xaa event_features) (bare_space host) (record (bare_space host) { object = enabled_with fresh_object event_features }) refl)
 
-pub has-log : (it : Arrival) (steps : List Step) → AreFollowed steps → HasRun (whole_log it steps) (space_after (destination it.on it.from 0) (arrived it) steps)
+pub has-log : (it : Arrival) (steps : List Step) → AreFollowed (destination it.on it.from 0) (length (first_calls it)) [] (arrived it) steps → HasRun (whole_log it steps) (space_after (destination it.on it.from 0) (arrived it) steps)
 has-log it steps followed =
     let on = it.on in
     let new = arrived it in
@@ -204,33 +205,18 @@ has-log it steps followed =
     let there : HaveAreas (handshaken (bare_space host) 0xaa event_features) it.areas = λ page inside. shaken-areas host page ∙ sym (it.are.pages page) ∙ inside in
     let begun = first-logged one on it.offer it.calls it.areas new.destination.guest.space refl refl it.offers it.has refl watched.handshake there watched.areas in
     let number = length (first_calls it) in
-    let rest =
-    steps-written
-    (record {
-      world = new;
-      reached = again;
-      ran = has-run it.world it.n it.count it.is;
-      calls = [];
-      one = begun.last;
-      same = begun.leaves;
-      told = begun.told;
-      on = on;
-      own = sym begun.name;
-      from = it.from;
-      source = it.source;
-    })
-    0 number steps followed tt (sym begun.home) in
+    let at : Free on.object 0 number new.destination.guest.space [] begun.last = record { same = begun.leaves; told = begun.told; below = tt; own = sym begun.name; there = sym begun.home } in
+    let rest = steps-end on it.from 0 it.source new number begun.last steps (again, has-run it.world it.n it.count it.is) at followed in
     let opening = call_steps 0 (answered (call.Open false 0x800) (Opened on)) in
     let log = log_of (destination on it.from 0) number [] new steps in
-    let whole = then-logged one _ log.lines new.destination.guest.space (space_after (destination on it.from 0) new steps) begun rest.goes in
+    let last = under_way rest.last.kernel log.begun in
     record {
-      steps = opening ++ whole.steps;
-      last = whole.last;
+      steps = opening ++ (begun.steps ++ rest.steps);
+      last = rest.last;
       run = record {
-        whole = filter_map-append line_of opening whole.steps ∙ ap (λ l. lines_of opening ++ l) whole.whole;
-        leads = leads-append (at_rest fresh_kernel) (at_rest kernel) (under_way whole.last.kernel log.begun) opening whole.steps (opens on)
-            (subst (λ begun. Leads (at_rest kernel) whole.steps (under_way whole.last.kernel begun)) (sym rest.begun) whole.leads);
+        whole = filter_map-append line_of opening (begun.steps ++ rest.steps) ∙ ap (λ l. lines_of opening ++ l) (filter_map-append line_of begun.steps rest.steps ∙ (λ i. begun.whole i ++ rest.whole i));
+        leads = leads-append (at_rest fresh_kernel) (at_rest kernel) last opening (begun.steps ++ rest.steps) (opens on) (leads-append (at_rest kernel) (at_rest begun.last.kernel) last begun.steps rest.steps begun.leads rest.leads);
       };
-      differs = whole.differs refl;
-      leaves = whole.leaves;
+      differs = rest.differs (begun.differs refl);
+      leaves = rest.leaves;
     }

@@ -25,4 +25,12 @@ pub mod ExampleLog
 pub mod Unmaps
 pub mod MapReplies
 pub mod Returns
+pub mod Beside
+pub mod Discards
+pub mod DiscardRuns
+pub mod Apart
+pub mod States
+pub mod Moves
+pub mod QuietCalls
+pub mod GuestCalls
 pub mod Clearing

@@ -25,7 +25,10 @@ use Rattle.mig_model.specs.Migration.{World, next, outcome}
 use Rattle.mig_model.specs.Space.{Space, access_of, accessed, accessed_by}
 use Rattle.mig_model.proofs.memory.SpaceLemmas.{IsSoundSpace-accessed}
 use Rattle.mig_model.proofs.steps.StepLemmas.{next-refused}
+use Rattle.uffd_log.specs.declared.call.Call.{Call}
 use Rattle.uffd_log.specs.declared.call.Call.TheVariants as call
+use Rattle.uffd_log.specs.declared.call.Message.{Message as LogMessage}
+use Rattle.uffd_log.specs.declared.call.Message.TheVariants as log
 use Rattle.uffd_log.specs.declared.call.Descriptor.{Descriptor}
 use Rattle.uffd_log.specs.declared.line.Answer.TheVariants.{Done, Value}
 use Rattle.kernel_rules.specs.declared.difference.Difference.TheVariants.{FaultTakenAway}
@@ -39,8 +42,8 @@ use Rattle.kernel_rules.specs.Runs.{Event, IsStep, Leads, Outcome, begins, ends,
 use Rattle.kernel_rules.specs.State.{Kernel, allowed, of_object}
 use Rattle.kernel_laws.specs.Agreement.{Agree, AreUntold, Counterparts, Takes, message_of, telling}
 use Rattle.kernel_laws.specs.Handlers.{copies_page, zeroes_page}
-use Rattle.kernel_laws.specs.Logs.{AreLate, Ended, IsLogged, IsQuiet, Node, Written, answered, at_rest, calls_written, lines_of_call, lines_of_calls, log_of, read_call, space_after, then_written, under_way, AreFollowed, IsFollowed}
-use Rattle.kernel_laws.specs.Reading.{makes}
+use Rattle.kernel_laws.specs.Logs.{AreLate, Ended, Node, Written, answered, calls_written, lines_of_call, lines_of_calls, read_call, then_written, under_way}
+use Rattle.kernel_laws.specs.Reading.{is_of_reader, makes}
 use Rattle.kernel_laws.proofs.Accesses.{makes-taken}
 use Rattle.kernel_laws.proofs.FaultReads.{Keeps, fault-read, home_of, keeps-none, none-unread, requeued}
 use Rattle.kernel_laws.proofs.OpenCalls.{AreBelow, HasCalls, Pending, apart, begun_calls, but-last, last-begun, none-begun, open_of, others-return, others-stay, still-below, telling_of}
@@ -113,34 +116,34 @@ agree-returned calls space kernel key name object below told agree =
 -- the steps of a call in an address space: its lines, and its effect between them
 abbrev pub steps_in : (home key : ℕ) → Ended → List runs.Step
 steps_in home key ended =
-    runs.Step.line (begins (record { key = key; space = home; call = ended.call; last = false })) ∷ runs.Step.effect key ended.out
+    runs.Step.line (begins (record { key = key; space = home; thread = 0; program = 0; call = ended.call; last = false })) ∷ runs.Step.effect key ended.out
     ∷ runs.Step.line (ends key ended.out) ∷ []
 
 abbrev pub call_steps : ℕ → Ended → List runs.Step
 call_steps key ended = steps_in 0 key ended
 
 pub takes-effect : (calls : List Pending) (kernel after : Kernel) (made : Made) (out : Outcome) → list_any (λ (one : Pending). eqb one.key made.key) calls ≡ false → takes kernel made out ≡ Some after →
-    effect_of (record { kernel = kernel; begun = begun_calls calls ++ record { made = made; out = None } ∷ [] }) (begun_of (begun_calls calls ++ record { made = made; out = None } ∷ []) made.key) made.key out
-    ≡ Some (record { kernel = after; begun = begun_calls calls ++ record { made = made; out = Some out } ∷ [] })
+    effect_of (record { kernel = kernel; begun = begun_calls calls ++ record { made = made; out = None; left = 0 } ∷ [] }) (begun_of (begun_calls calls ++ record { made = made; out = None; left = 0 } ∷ []) made.key) made.key out
+    ≡ Some (record { kernel = after; begun = begun_calls calls ++ record { made = made; out = Some out; left = 0 } ∷ [] })
 takes-effect calls kernel after made out none taken =
-    let begun : runs.Begun = record { made = made; out = None } in
-    let over : runs.Begun = record { made = made; out = Some out } in
+    let begun : runs.Begun = record { made = made; out = None; left = 0 } in
+    let over : runs.Begun = record { made = made; out = Some out; left = 0 } in
     ap (λ o. effect_of (record { kernel = kernel; begun = begun_calls calls ++ begun ∷ [] }) o made.key out) (last-begun made.key calls begun refl none)
     ∙ (λ i. world_with (record { kernel = kernel; begun = but-last made.key calls begun refl none i ++ over ∷ [] }) (taken i))
 
 -- its end, with those that have begun before
 pub call-ends : (calls : List Pending) (after : Kernel) (made : Made) (out : Outcome) → list_any (λ (one : Pending). eqb one.key made.key) calls ≡ false → is_still out ≡ true → Some out ≡ effect_at_end out.answer out → may_return after made.key ≡ true →
-    IsStep (record { kernel = after; begun = begun_calls calls ++ record { made = made; out = Some out } ∷ [] }) (runs.Step.line (ends made.key out)) (under_way (returned after made.key) (map open_of calls))
+    IsStep (record { kernel = after; begun = begun_calls calls ++ record { made = made; out = Some out; left = 0 } ∷ [] }) (runs.Step.line (ends made.key out)) (under_way (returned after made.key) (map open_of calls))
 call-ends calls after made out none still is may =
-    let over : runs.Begun = record { made = made; out = Some out } in
-    (over, still, last-begun made.key calls over refl none, may, is, ap (λ b. record { kernel = returned after made.key; begun = b }) (sym (but-last made.key calls over refl none)))
+    let over : runs.Begun = record { made = made; out = Some out; left = 0 } in
+    (over, still, last-begun made.key calls over refl none, may, is, refl, ap (λ b. record { kernel = returned after made.key; begun = b }) (sym (but-last made.key calls over refl none)))
 
-pub leads-in : (calls : List Pending) (kernel after : Kernel) (home key name : ℕ) (ended : Ended) → AreBelow key calls → takes kernel (record { key = key; space = home; call = ended.call; last = false }) ended.out ≡ Some after → is_still ended.out ≡ true →
+pub leads-in : (calls : List Pending) (kernel after : Kernel) (home key name : ℕ) (ended : Ended) → AreBelow key calls → takes kernel (record { key = key; space = home; thread = 0; program = 0; call = ended.call; last = false }) ended.out ≡ Some after → is_still ended.out ≡ true →
     Some ended.out ≡ effect_at_end ended.out.answer ended.out → may_return after key ≡ true → Leads (under_way kernel (map open_of calls)) (steps_in home key ended) (under_way (returned after key) (map open_of calls))
 leads-in calls kernel after home key name ended below taken still out may =
-    let made : Made = record { key = key; space = home; call = ended.call; last = false } in
-    let begun : runs.Begun = record { made = made; out = None } in
-    let over : runs.Begun = record { made = made; out = Some ended.out } in
+    let made : Made = record { key = key; space = home; thread = 0; program = 0; call = ended.call; last = false } in
+    let begun : runs.Begun = record { made = made; out = None; left = 0 } in
+    let over : runs.Begun = record { made = made; out = Some ended.out; left = 0 } in
     let none = apart key calls below in (
       record { kernel = kernel; begun = begun_calls calls ++ begun ∷ [] },
       (none-begun key calls none, refl),
@@ -151,14 +154,14 @@ leads-in calls kernel after home key name ended below taken still out may =
       ),
     )
 
-pub call-leads : (calls : List Pending) (kernel after : Kernel) (key name : ℕ) (ended : Ended) → AreBelow key calls → takes kernel (record { key = key; space = 0; call = ended.call; last = false }) ended.out ≡ Some after → is_still ended.out ≡ true →
+pub call-leads : (calls : List Pending) (kernel after : Kernel) (key name : ℕ) (ended : Ended) → AreBelow key calls → takes kernel (record { key = key; space = 0; thread = 0; program = 0; call = ended.call; last = false }) ended.out ≡ Some after → is_still ended.out ≡ true →
     Some ended.out ≡ effect_at_end ended.out.answer ended.out → telling after ≡ telling_of name calls → Leads (under_way kernel (map open_of calls)) (call_steps key ended) (under_way (returned after key) (map open_of calls))
 call-leads calls kernel after key name ended below taken still out told =
     leads-in calls kernel after 0 key name ended below taken still out (ap (λ k. may_return k key) told ∙ others-return name key calls (apart key calls below))
 
 logged-call : {calls : List Pending} (one : Counterparts) (kernel after : Kernel) (key : ℕ) (ended : Ended) (object : Object) (space : Space) (before : List runs.Step) → AreBelow key calls → lines_of before ≡ [] →
     Leads (under_way one.kernel (map open_of calls)) before (under_way kernel (map open_of calls)) →
-    takes kernel (record { key = key; space = 0; call = ended.call; last = false }) ended.out ≡ Some after → is_still ended.out ≡ true → Some ended.out ≡ effect_at_end ended.out.answer ended.out → telling after ≡ telling_of one.name calls → object.space ≡ one.object.space →
+    takes kernel (record { key = key; space = 0; thread = 0; program = 0; call = ended.call; last = false }) ended.out ≡ Some after → is_still ended.out ≡ true → Some ended.out ≡ effect_at_end ended.out.answer ended.out → telling after ≡ telling_of one.name calls → object.space ≡ one.object.space →
     (AreLate one.kernel → AreLate after) → Agree space after one.name object → Goes calls calls one (lines_of_call key ended) space
 logged-call {calls = calls} one kernel after key ended object space before below none first taken still out told home differs agree =
     record {
@@ -186,9 +189,13 @@ homes-by kernel name other space object new false is named same h = h
 pub homes-with : (one : Counterparts) (new : Object) → new.space ≡ one.object.space → (other space : ℕ) → home_of (one.kernel.objects other) ≡ Some space → home_of (cond (eqb one.name other) (Some new) (one.kernel.objects other)) ≡ Some space
 homes-with one new same other space h = homes-by one.kernel one.name other space one.object new (eqb one.name other) refl one.agree.named same h
 
+-- a call of the handler, by its number
+abbrev handler_call : ℕ → Call → Made
+handler_call key call = record { key = key; space = 0; thread = 0; program = 0; call = call; last = false }
+
 -- a rule of one call that has taken it
 pub logged-rule : {calls : List Pending} (one : Counterparts) (key : ℕ) (on : Descriptor) (ended : Ended) (rule : Option Kernel) (space : Space) → AreBelow key calls → on.object ≡ one.name → object_of ended.call ≡ Some on.object →
-    on_object one.kernel key one.name one.object false ended.out ended.call ≡ rule →
+    on_object one.kernel (handler_call key ended.call) one.name one.object ended.out ended.call ≡ rule →
     is_still ended.out ≡ true → Some ended.out ≡ effect_at_end ended.out.answer ended.out → ((after : Kernel) → rule ≡ Some after → Keeps one.kernel after) → HasCalls calls one → Takes rule space one.name →
     Goes calls calls one (lines_of_call key ended) space
 logged-rule one key on ended rule space below own called is still out keeps told takes_it =
@@ -197,10 +204,10 @@ logged-rule one key on ended rule space below own called is still out keeps told
     (same-home one takes_it.kernel takes_it.object kept takes_it.agree.named) kept.differs takes_it.agree
   where
     taken-by : (one : Counterparts) (key : ℕ) (on : Descriptor) (ended : Ended) (rule : Option Kernel) (after : Kernel) → on.object ≡ one.name → object_of ended.call ≡ Some on.object →
-        on_object one.kernel key one.name one.object false ended.out ended.call ≡ rule → rule ≡ Some after → takes one.kernel (record { key = key; space = 0; call = ended.call; last = false }) ended.out ≡ Some after
+        on_object one.kernel (handler_call key ended.call) one.name one.object ended.out ended.call ≡ rule → rule ≡ Some after → takes one.kernel (record { key = key; space = 0; thread = 0; program = 0; call = ended.call; last = false }) ended.out ≡ Some after
     taken-by one key on ended rule after own called is taken =
-        ap (λ (o : Option ℕ). runs.taken_by one.kernel (record { key = key; space = 0; call = ended.call; last = false }) ended.out o) (called ∙ ap (λ n. Some n) own)
-        ∙ ap (λ (o : Option Object). of_object o (λ object. on_object one.kernel key one.name object false ended.out ended.call)) one.agree.named ∙ is ∙ taken
+        ap (λ (o : Option ℕ). runs.taken_by one.kernel (record { key = key; space = 0; thread = 0; program = 0; call = ended.call; last = false }) ended.out o) (called ∙ ap (λ n. Some n) own)
+        ∙ ap (λ (o : Option Object). of_object o (λ object. on_object one.kernel (handler_call key ended.call) one.name object ended.out ended.call)) one.agree.named ∙ is ∙ taken
 
 -- What calls have to tell stays
 
@@ -381,6 +388,13 @@ first-fault (fault ∷ faults) events noted none is = (faults, ap (λ n. n ∷ f
 read-space : (space : Space) (noted : Noted) (rest : List Noted) → space.object.faults ≡ noted ∷ rest → record space { object = message_read space.object } ≡ requeued space rest space.object.events
 read-space space noted rest faults = rw faults refl
 
+unread-by-none : (message : LogMessage) → is_of_reader None message ≡ false
+unread-by-none (log.Fault addr flags thread) = refl
+unread-by-none (log.Fork child) = refl
+unread-by-none (log.Remap from to len) = refl
+unread-by-none (log.Remove start end) = refl
+unread-by-none (log.Unmap start end) = refl
+
 -- read(2) of a message
 abbrev pub read_ended : Descriptor → Noted → Ended
 read_ended on noted = record { call = call.Read on None; out = record { answer = Value 1; messages = message_of noted.message ∷ []; runs = [] } }
@@ -390,12 +404,12 @@ pub read-logged : {calls : List Pending} (one : Counterparts) (key : ℕ) (on : 
 unfolding on_object
 read-logged {calls = calls} one key on noted rest below own told enabled first =
     let space = one.space in
-    let took = fault-read space one.kernel key one.name one.object None noted rest one.agree enabled first refl in
+    let took = fault-read space one.kernel key None one.name one.object None noted rest one.agree enabled first refl (unread-by-none (message_of noted.message)) in
     let ended = read_ended on noted in
     subst (Goes calls calls one (lines_of_calls key (ended ∷ []))) (sym (read-space space noted rest first))
     (logged-call one took.now took.new key ended one.object (requeued space rest space.object.events) (runs.Step.thread_queues took.thread ∷ []) below refl
     (under_way took.now (map open_of calls), ap (λ o. world_with (under_way one.kernel (map open_of calls)) o) took.queued, refl)
-    (ap (λ n. of_object (took.now.objects n) (λ object. on_object took.now key n object false ended.out ended.call)) own ∙ ap (λ o. of_object o (λ object. on_object took.now key one.name object false ended.out ended.call)) took.named ∙ took.taken)
+    (ap (λ n. of_object (took.now.objects n) (λ object. on_object took.now (handler_call key ended.call) n object ended.out ended.call)) own ∙ ap (λ o. of_object o (λ object. on_object took.now (handler_call key ended.call) one.name object ended.out ended.call)) took.named ∙ took.taken)
     refl refl (took.keeps.told ∙ told) refl took.keeps.differs took.agree)
 
 -- One call that has done its work
@@ -431,16 +445,7 @@ abbrev pub AreAll : (World → Type 0) → World → List Step → Type 0
 AreAll holds world [] = holds world
 AreAll holds world (step ∷ steps) = holds world × AreAll holds (next world step) steps
 
--- a test holds of each step
-abbrev pub AreEach : (Step → Type 0) → List Step → Type 0
-AreEach test [] = Unit {0}
-AreEach test (step ∷ steps) = test step × AreEach test steps
-
-pub each-followed : (steps : List Step) → AreFollowed steps → AreEach IsFollowed steps
-each-followed [] followed = tt
-each-followed (step ∷ steps) followed = (followed.0, each-followed steps followed.1)
-
-first-of : (holds : World → Type 0) (world : World) (steps : List Step) → AreAll holds world steps → holds world
+pub first-of : (holds : World → Type 0) (world : World) (steps : List Step) → AreAll holds world steps → holds world
 first-of holds world [] all = all
 first-of holds world (step ∷ steps) all = all.0
 
@@ -459,38 +464,3 @@ writes-calls {before = before} one key calls space below goes = record { after =
 pub then-writes : {before : List Pending} (one : Counterparts) (log more : Written) (space last : Space) → (first : Writes before one log space) → Writes first.after first.goes.last more last → Writes before one (then_written log more) last
 then-writes one log more space last first second =
     record { after = second.after; goes = then-logged one log.lines more.lines space last first.goes second.goes; begun = second.begun; below = second.below }
-
--- what each step keeps, of the calls under way
-pub every-logged : (node : Node) (name home : ℕ) (holds : World → Type 0) (test : Step → Type 0) (keeps : List Pending → Type 0) →
-    ((world : World) (before : List Pending) (one : Counterparts) (key : ℕ) (step : Step) → holds world → holds (next world step) → test step → keeps before → AreBelow key before → one.space ≡ node.space world → HasCalls before one → name ≡ one.name → home ≡ one.object.space →
-    (writes : Writes before one (node.writes key (map open_of before) world step) (node.space (next world step))) × keeps writes.after) →
-    (world : World) (before : List Pending) (one : Counterparts) (key : ℕ) (steps : List Step) → AreAll holds world steps → AreEach test steps → keeps before → AreBelow key before → one.space ≡ node.space world → HasCalls before one → name ≡ one.name →
-    home ≡ one.object.space → Writes before one (log_of node key (map open_of before) world steps) (space_after node world steps)
-every-logged node name home holds test keeps logs world before one key [] all each kept below same told own there = record { after = before; goes = stays one (node.space world) same told; begun = refl; below = below }
-every-logged node name home holds test keeps logs world before one key (step ∷ steps) all each kept below same told own there =
-    let new = next world step in
-    let written = node.writes key (map open_of before) world step in
-    let both = logs world before one key step all.0 (first-of holds new steps all.1) each.0 kept below same told own there in
-    let first = both.0 in
-    let rest = every-logged node name home holds test keeps logs new first.after first.goes.last written.key steps all.1 each.1 both.1 first.below first.goes.leaves first.goes.told (own ∙ sym first.goes.name) (there ∙ sym first.goes.home) in
-    then-writes one written (log_of node written.key written.begun new steps) (node.space new) (space_after node new steps) first
-    (subst (λ begun. Writes first.after first.goes.last (log_of node written.key begun new steps) (space_after node new steps)) (sym first.begun) rest)
-
--- from a kernel at rest on
-pub logged-from : (one : Counterparts) (log : Written) (space : Space) → Writes [] one log space → IsLogged one log space
-logged-from one log space writes =
-    let goes = writes.goes in
-    record {
-      steps = goes.steps;
-      last = goes.last;
-      whole = goes.whole;
-      leads = subst (λ begun. Leads (at_rest one.kernel) goes.steps (under_way goes.last.kernel begun)) (sym writes.begun) goes.leads;
-      leaves = goes.leaves;
-      name = goes.name;
-      quiet = λ none. quiet-by writes.after goes.last (sym writes.begun ∙ none) goes.told;
-      differs = goes.differs;
-    }
-  where
-    quiet-by : (after : List Pending) (last : Counterparts) → map open_of after ≡ [] → HasCalls after last → IsQuiet last.kernel
-    quiet-by [] last none told = told
-    quiet-by (pending ∷ after) last none told = absurd (false≢true (ap is_empty none))

@@ -47,8 +47,8 @@ use Rattle.kernel_rules.specs.Runs as runs
 use Rattle.kernel_rules.specs.Runs.{Event, IsStep, Leads, Outcome, begins, begun_of, effect_at_end, effect_of, ends, is_still, object_of, on_object, on_space, takes, without_begun, world_with}
 use Rattle.kernel_rules.specs.State.{Kernel, allowed, is_range, of_object}
 use Rattle.kernel_laws.specs.Agreement.{Agree, AreUnread, AreUntold, Counterparts, Takes, is_message_of, message_of, messages_of, telling}
-use Rattle.kernel_laws.specs.Logs.{AreLate, Ended, Open, answer_of_reply, bits_of, calls_written, event_written, is_followed, issue_written, lines_of_call, lines_of_calls, map_call, map_written, read_call, read_written, then_written, under_way, wake_range}
-use Rattle.kernel_laws.specs.Maps.{MapCall, failed, is_new_call}
+use Rattle.kernel_laws.specs.Logs.{AreLate, Ended, Open, bits_of, calls_written, event_written, issue_written, lines_of_call, lines_of_calls, map_call, map_written, read_call, read_written, then_written, under_way, wake_range, without_cleared}
+use Rattle.kernel_laws.specs.Maps.{MapCall, answer_of_reply, failed, is_new_call}
 use Rattle.kernel_laws.proofs.EventReads.{all-kept, no-faults, same-head, same-tail, takes-event}
 use Rattle.kernel_laws.proofs.FaultReads.{page-requeued, requeued, sound-requeued, takes-read}
 use Rattle.kernel_laws.proofs.Kernels.{agree-woken, is-enabled}
@@ -109,10 +109,10 @@ unread-left kernel name one pending none =
     ∙ (λ i. record (calling kernel name (one ∷ pending)) { events = kept i })
 
 takes-unmap : (kernel : Kernel) (key name : ℕ) (object : Object) (one : Pending) (pending : List Pending) → list_any (λ (other : Pending). eqb other.key one.key) pending ≡ false → AreUnread kernel.faults name object [] →
-    message_taken (queueing kernel name one pending) key name object (unmap_of one) 0 ≡ Some (reading kernel name one pending)
+    message_taken (queueing kernel name one pending) key None name object (unmap_of one) 0 ≡ Some (reading kernel name one pending)
 takes-unmap kernel key name object one pending none unread =
     let now = queueing kernel name one pending in
-    takes-event now key name object (unmap_of one) (Some (one.key, false)) (reading kernel name one pending) refl (no-faults kernel.faults name unread.none_queued)
+    takes-event now key None name object (unmap_of one) (Some (one.key, false)) (reading kernel name one pending) refl (no-faults kernel.faults name unread.none_queued)
     (ap (λ b. cond b (Some (one.key, false)) (teller now name (unmap_of one) (numbers_of pending) (has_untold now name one.key))) (tells-unmap kernel name one pending))
     (ap (λ o. Some (event_read now one.key (unmap_of one) o)) (finds-unmap kernel name one pending) ∙ ap (λ k. Some k) (unread-left kernel name one pending none))
 
@@ -146,7 +146,7 @@ others-told : (kernel : Kernel) (name key : ℕ) (one : Pending) (pending : List
 others-told kernel name key one pending apart none =
     λ i. record (telling_of name pending) { calls = without-one key one pending apart none i; told = without-told name key one pending apart none i }
 
-first-begun : (one : Pending) (pending : List Pending) → begun_of (begun_calls (one ∷ pending)) one.key ≡ Some (over_of one)
+pub first-begun : (one : Pending) (pending : List Pending) → begun_of (begun_calls (one ∷ pending)) one.key ≡ Some (over_of one)
 first-begun one pending = ap (λ b. cond b (Some (over_of one)) (begun_of (begun_calls pending) one.key)) (eqb-self one.key)
 
 others-begun : (key : ℕ) (pending : List Pending) → list_any (λ (other : Pending). eqb other.key key) pending ≡ false → without_begun (begun_calls pending) key ≡ begun_calls pending
@@ -155,7 +155,7 @@ others-begun key pending none = all-kept (λ (one : runs.Begun). eqb one.made.ke
   begun-apart key [] none = refl
   begun-apart key (one ∷ pending) none = λ i. or_first (eqb one.key key) (list_any (λ (other : Pending). eqb other.key key) pending) none i || begun-apart key pending (or_second (eqb one.key key) (list_any (λ (other : Pending). eqb other.key key) pending) none) i
 
-but-first : (one : Pending) (pending : List Pending) → list_any (λ (other : Pending). eqb other.key one.key) pending ≡ false → without_begun (begun_calls (one ∷ pending)) one.key ≡ begun_calls pending
+pub but-first : (one : Pending) (pending : List Pending) → list_any (λ (other : Pending). eqb other.key one.key) pending ≡ false → without_begun (begun_calls (one ∷ pending)) one.key ≡ begun_calls pending
 but-first one pending none =
     let left = without_begun (begun_calls pending) one.key in
     ap (λ b. cond (not b) (over_of one ∷ left) left) (eqb-self one.key) ∙ others-begun one.key pending none
@@ -169,6 +169,7 @@ oldest-returns kernel name key one pending good none = (
   first-begun one pending,
   ap (λ b. (not b && true) && true) (apart-events name one.key pending none),
   good.ends,
+  refl,
   ap (λ b. record { kernel = returning kernel name key one pending; begun = b }) (sym (but-first one pending none)),
 )
 
@@ -205,9 +206,9 @@ event-read one key on first pending noted rest below own told enabled none event
     let name = one.name in
     let all = first ∷ pending in
     let ended = read_ended on noted in
-    let made : Made = record { key = key; space = 0; call = ended.call; last = false } in
-    let begun : runs.Begun = record { made = made; out = None } in
-    let over : runs.Begun = record { made = made; out = Some ended.out } in
+    let made : Made = record { key = key; space = 0; thread = 0; program = 0; call = ended.call; last = false } in
+    let begun : runs.Begun = record { made = made; out = None; left = 0 } in
+    let over : runs.Begun = record { made = made; out = Some ended.out; left = 0 } in
     let out = apart key all below in
     let now = queueing kernel name first pending in
     let after = reading kernel name first pending in
@@ -215,12 +216,12 @@ event-read one key on first pending noted rest below own told enabled none event
     let unread : AreUnread kernel.faults name one.object [] = subst (AreUnread kernel.faults name one.object) none one.agree.unread in
     let queued : world_with (under_way kernel (map open_of all)) (tells kernel first.key) ≡ Some (under_way now (map open_of all)) =
     ap (λ k. world_with (under_way kernel (map open_of all)) (tells k first.key)) (is-calling kernel name all told) ∙ ap (λ o. world_with (under_way kernel (map open_of all)) o) (queues-unmap kernel name first pending) in
-    let takes_it : read now key name one.object None (message_of noted.message ∷ []) (Value 1) ≡ Some after =
-    takes-read now after key name one.object None (message_of noted.message) (is-enabled one.agree ∙ enabled) refl
-    (ap (λ m. message_taken now key name one.object m 0) is ∙ takes-unmap kernel key name one.object first pending below.1 unread) in
+    let takes_it : read now key None name one.object None (message_of noted.message ∷ []) (Value 1) ≡ Some after =
+    takes-read now after key None name one.object None (message_of noted.message) (is-enabled one.agree ∙ enabled) refl
+    (ap (λ m. message_taken now key None name one.object m 0) is ∙ takes-unmap kernel key name one.object first pending below.1 unread) in
     let taken : takes now made ended.out ≡ Some after =
-    ap (λ n. of_object (now.objects n) (λ object. on_object now key n object false ended.out ended.call)) own
-    ∙ ap (λ o. of_object o (λ object. on_object now key name object false ended.out ended.call)) one.agree.named
+    ap (λ n. of_object (now.objects n) (λ object. on_object now made n object ended.out ended.call)) own
+    ∙ ap (λ o. of_object o (λ object. on_object now made name object ended.out ended.call)) one.agree.named
     ∙ takes_it in
     let same = event-space one.space noted rest none events in
     let space = requeued one.space one.space.object.faults rest in
@@ -281,7 +282,7 @@ woken-range one start len enabled range =
       agree = agree-woken (start / 4096) (len / 4096) true one.space one.kernel one.name one.object one.agree;
     }
 
-range-woken : {calls : List Pending} (one : Counterparts) (key : ℕ) (on : Descriptor) (start end : ℕ) → AreBelow key calls → on.object ≡ one.name → HasCalls calls one → one.space.object.enabled ≡ true → MayWake start end →
+pub range-woken : {calls : List Pending} (one : Counterparts) (key : ℕ) (on : Descriptor) (start end : ℕ) → AreBelow key calls → on.object ≡ one.name → HasCalls calls one → one.space.object.enabled ≡ true → MayWake start end →
     Goes calls calls one (lines_of_calls key (wake_range on start (end - start))) one.space
 range-woken one key on start end below own told enabled wakes =
     wake-logged one key on (max start LOW) (end - start - (LOW - start)) one.space below own told (woken-range one (max start LOW) (end - start - (LOW - start)) enabled wakes)
@@ -314,17 +315,17 @@ event-logged {calls = calls} one key on noted rest below own told enabled none e
 -- read(2) of a page fault
 
 -- the message of a fault
-abbrev IsFault : Message → Type 0
+abbrev pub IsFault : Message → Type 0
 IsFault (Message.PageFault addr write wp tid) = Unit {0}
 IsFault message = ⊥
 
-fault-by : (object : Object) (fault : Fault) (message : Message) → is_message_of object fault (message_of message) ≡ true → IsFault message
+pub fault-by : (object : Object) (fault : Fault) (message : Message) → is_message_of object fault (message_of message) ≡ true → IsFault message
 fault-by object fault (Message.PageFault addr write wp tid) is = tt
 fault-by object fault (Message.Remap from to len) is = absurd (false≢true is)
 fault-by object fault (Message.Remove start end) is = absurd (false≢true is)
 fault-by object fault (Message.Unmap start end) is = absurd (false≢true is)
 
-is-fault : (one : Counterparts) (noted : Noted) (rest : List Noted) → one.space.object.faults ≡ noted ∷ rest → IsFault noted.message
+pub is-fault : (one : Counterparts) (noted : Noted) (rest : List Noted) → one.space.object.faults ≡ noted ∷ rest → IsFault noted.message
 is-fault one noted rest first =
     let unread : AreUnread one.kernel.faults one.name one.object (noted ∷ rest) = subst (AreUnread one.kernel.faults one.name one.object) first one.agree.unread in
     fault-by one.object unread.on_their_way.0 noted.message unread.on_their_way.1.told
@@ -354,9 +355,8 @@ message-logged one key on noted (fault ∷ faults) events below own told enabled
 -- A map call begins
 
 -- it is the next of a guest
-abbrev map-call : (calls : List Pending) (one : Counterparts) (key : ℕ) → AreBelow key calls → HasCalls calls one → one.space.object.enabled ≡ true → has_events one.space.object ≡ true → MapCall
-map-call calls one key below told enabled asked =
-    let none = apart key calls below in
+abbrev pub map-call : (calls : List Pending) (one : Counterparts) (key : ℕ) → list_any (λ (one : Pending). eqb one.key key) calls ≡ false → HasCalls calls one → one.space.object.enabled ≡ true → has_events one.space.object ≡ true → MapCall
+map-call calls one key none told enabled asked =
     record {
       one = one;
       key = key;
@@ -365,21 +365,22 @@ map-call calls one key below told enabled asked =
       asked = asked;
     }
 
--- one that changes nothing returns at once
-refused-goes : {calls : List Pending} (one : Counterparts) (home key : ℕ) (ended : Ended) (space : Space) → AreBelow key calls → HasCalls calls one → takes one.kernel (record { key = key; space = home; call = ended.call; last = false }) ended.out ≡ Some one.kernel →
-    is_still ended.out ≡ true → Some ended.out ≡ effect_at_end ended.out.answer ended.out → one.space ≡ space →
-    Goes calls calls one (begins (record { key = key; space = home; call = ended.call; last = false }) ∷ ends key ended.out ∷ []) space
-refused-goes {calls = calls} one home key ended space below told taken still out same =
+-- one that has nothing to tell returns at once
+pub at-once-goes : {calls : List Pending} (one : Counterparts) (home key : ℕ) (ended : Ended) (after : Kernel) (space : Space) → AreBelow key calls → HasCalls calls one →
+    takes one.kernel (record { key = key; space = home; thread = 0; program = 0; call = ended.call; last = false }) ended.out ≡ Some after → is_still ended.out ≡ true → Some ended.out ≡ effect_at_end ended.out.answer ended.out → telling after ≡ telling one.kernel →
+    (AreLate one.kernel → AreLate after) → Agree space after one.name one.object → Goes calls calls one (begins (record { key = key; space = home; thread = 0; program = 0; call = ended.call; last = false }) ∷ ends key ended.out ∷ []) space
+at-once-goes {calls = calls} one home key ended after space below told taken still out same differs agree =
+    let now = same ∙ told in
     record {
       steps = steps_in home key ended;
-      last = record { space = one.space; kernel = returned one.kernel key; name = one.name; object = one.object; agree = agree-returned calls one.space one.kernel key one.name one.object below told one.agree };
+      last = record { space = space; kernel = returned after key; name = one.name; object = one.object; agree = agree-returned calls space after key one.name one.object below now agree };
       whole = refl;
-      leads = leads-in calls one.kernel one.kernel home key one.name ended below taken still out (ap (λ k. may_return k key) told ∙ others-return one.name key calls (apart key calls below));
-      leaves = same;
+      leads = leads-in calls one.kernel after home key one.name ended below taken still out (ap (λ k. may_return k key) now ∙ others-return one.name key calls (apart key calls below));
+      leaves = refl;
       name = refl;
       home = refl;
-      told = told-returned calls one.kernel key one.name below told;
-      differs = λ h. h;
+      told = told-returned calls after key one.name below now;
+      differs = differs;
     }
 
 -- What a call leaves that unmaps a range, by whether it has an UNMAP to tell
@@ -405,20 +406,21 @@ record Unmapping (calls : List Pending) : Type 0 where
   first : ℕ
   count : ℕ
   call : Call
+  keeps : (space : Space) → without_cleared space call ≡ space
   answer : Answer
   still : is_still (record { answer = answer; messages = []; runs = [] }) ≡ true
   out : Some (record { answer = answer; messages = []; runs = [] }) ≡ effect_at_end answer (record { answer = answer; messages = []; runs = [] })
   after : Kernel
   object : Object
   space : Space
-  taken : takes one.kernel (record { key = key; space = one.object.space; call = call; last = false }) (record { answer = answer; messages = []; runs = [] }) ≡ Some after
+  taken : takes one.kernel (record { key = key; space = one.object.space; thread = 0; program = 0; call = call; last = false }) (record { answer = answer; messages = []; runs = [] }) ≡ Some after
   is : unmapped one.kernel key one.object.space first count ≡ after
   agree : Agree space after one.name object
 
 -- by its UNMAP
 has-after : {calls : List Pending} (it : Unmapping calls) (w : Bool) → is_watched it.one.space.object it.first it.count ≡ w → unmapped_by it.one.kernel it.key it.one.object.space it.first it.count (cond w (it.one.name ∷ []) []) ≡ it.after
 has-after {calls = calls} it w is =
-    ap (unmapped_by it.one.kernel it.key it.one.object.space it.first it.count) (sym (unmap-tells (map-call calls it.one it.key it.below it.told it.enabled it.asked) it.first it.count w is)) ∙ it.is
+    ap (unmapped_by it.one.kernel it.key it.one.object.space it.first it.count) (sym (unmap-tells (map-call calls it.one it.key (apart it.key calls it.below) it.told it.enabled it.asked) it.first it.count w is)) ∙ it.is
 
 after-home : {calls : List Pending} (it : Unmapping calls) (w : Bool) → is_watched it.one.space.object it.first it.count ≡ w → it.object.space ≡ it.one.object.space
 after-home it w is =
@@ -457,7 +459,7 @@ abbrev ended_of : {calls : List Pending} → Unmapping calls → Ended
 ended_of it = record { call = it.call; out = record { answer = it.answer; messages = []; runs = [] } }
 
 unwatched-goes : {calls : List Pending} (it : Unmapping calls) → is_watched it.one.space.object it.first it.count ≡ false →
-    Goes calls calls it.one (begins (record { key = it.key; space = it.one.object.space; call = it.call; last = false }) ∷ ends it.key (ended_of it).out ∷ []) it.space
+    Goes calls calls it.one (begins (record { key = it.key; space = it.one.object.space; thread = 0; program = 0; call = it.call; last = false }) ∷ ends it.key (ended_of it).out ∷ []) it.space
 unwatched-goes {calls = calls} it is =
     let key = it.key in
     let none = apart key calls it.below in
@@ -511,17 +513,17 @@ told-after {calls = calls} it is =
       events = sym (map-append (event_of name) calls (last ∷ [])) i;
     })
 
-begun-after : (calls : List Pending) (last : Pending) → begun_calls calls ++ over_of last ∷ [] ≡ begun_calls (calls ++ last ∷ [])
+pub begun-after : (calls : List Pending) (last : Pending) → begun_calls calls ++ over_of last ∷ [] ≡ begun_calls (calls ++ last ∷ [])
 begun-after [] last = refl
 begun-after (one ∷ calls) last = ap (λ l. over_of one ∷ l) (begun-after calls last)
 
 watched-goes : {calls : List Pending} (it : Unmapping calls) → is_watched it.one.space.object it.first it.count ≡ true →
-    Goes calls (calls ++ pending_of it ∷ []) it.one (begins (record { key = it.key; space = it.one.object.space; call = it.call; last = false }) ∷ []) it.space
+    Goes calls (calls ++ pending_of it ∷ []) it.one (begins (record { key = it.key; space = it.one.object.space; thread = 0; program = 0; call = it.call; last = false }) ∷ []) it.space
 watched-goes {calls = calls} it is =
-    let made : Made = record { key = it.key; space = it.one.object.space; call = it.call; last = false } in
+    let made : Made = record { key = it.key; space = it.one.object.space; thread = 0; program = 0; call = it.call; last = false } in
     let ended = ended_of it in
-    let begun : runs.Begun = record { made = made; out = None } in
-    let over : runs.Begun = record { made = made; out = Some ended.out } in
+    let begun : runs.Begun = record { made = made; out = None; left = 0 } in
+    let over : runs.Begun = record { made = made; out = Some ended.out; left = 0 } in
     let none = apart it.key calls it.below in
     record {
       steps = runs.Step.line (begins made) ∷ runs.Step.effect it.key ended.out ∷ [];
@@ -546,7 +548,7 @@ watched-goes {calls = calls} it is =
 -- What a range's UFFDIO_WAKE needs
 
 -- a registered page lies where the model may map pages
-mapped-page : (space : Space) (first count : ℕ) → IsSoundSpace space → IsMapping space.host.areas → is_watched space.object first count ≡ true → (LOW_PAGE < first + count) × (0 < count)
+pub mapped-page : (space : Space) (first count : ℕ) → IsSoundSpace space → IsMapping space.host.areas → is_watched space.object first count ≡ true → (LOW_PAGE < first + count) × (0 < count)
 mapped-page space first count sound mapping watched =
     let found = some-below (λ i. is_registered space.object (first + i)) count watched in
     let page = mapping.pages (first + found.0) (sound.mapped (first + found.0) found.2) in
@@ -555,7 +557,7 @@ mapped-page space first count sound mapping watched =
     below : (first i count : ℕ) → LOW_PAGE ≤ first + i → i < count → (LOW_PAGE < first + count) × (0 < count)
     below first i count low less = (omega (arith, low, less), omega (arith, less))
 
-may-wake : (first count : ℕ) → LOW_PAGE < first + count → 0 < count → first + count ≤ HIGH_PAGE → MayWake (first * 4096) ((first + count) * 4096)
+pub may-wake : (first count : ℕ) → LOW_PAGE < first + count → 0 < count → first + count ≤ HIGH_PAGE → MayWake (first * 4096) ((first + count) * 4096)
 may-wake first count low any high =
     whole (max (first * 4096) LOW) ((first + count) * 4096 - first * 4096 - (LOW - first * 4096)) (starts first) (ends first count) (some first count low any) (fits first count low high)
   where
@@ -587,7 +589,7 @@ range-writes {calls = calls} it false is mapping high = record { after = calls; 
 range-writes {calls = calls} it true is mapping high =
     let last = pending_of it in
     let within = mapped-page it.one.space it.first it.count it.one.agree.sound mapping is in
-    let good : IsGood last = record { wakes = may-wake it.first it.count within.0 within.1 high; ends = it.out } in
+    let good : IsGood last = record { wakes = may-wake it.first it.count within.0 within.1 high; keeps = it.keeps; ends = it.out } in
     record {
       after = calls ++ last ∷ [];
       goes = watched-goes it is;
@@ -606,14 +608,14 @@ queued_by_reply space command reply = length (call_messages space.object command
 -- The refused ones
 
 refused-writes : {calls : List Pending} (one : Counterparts) (key cpu : ℕ) (command : Command) (call : Call) (errno : Errno) → AreBelow key calls → HasCalls calls one →
-    takes one.kernel (record { key = key; space = one.object.space; call = call; last = false }) (record { answer = failed errno; messages = []; runs = [] }) ≡ Some one.kernel → reply_of (memory one.space.host) command ≡ Reply.Refused errno →
+    takes one.kernel (record { key = key; space = one.object.space; thread = 0; program = 0; call = call; last = false }) (record { answer = failed errno; messages = []; runs = [] }) ≡ Some one.kernel → reply_of (memory one.space.host) command ≡ Reply.Refused errno →
     queued_by one.space command ≡ 0 → one.space ≡ called one.space cpu command →
     Writes calls one (map_written one.object.space key (map open_of calls) (queued_by one.space command) (answer_of_reply (reply_of (memory one.space.host) command)) call) (called one.space cpu command)
 refused-writes {calls = calls} one key cpu command call errno below told taken is none same =
     let ended : Ended = record { call = call; out = record { answer = failed errno; messages = []; runs = [] } } in
     subst (λ n. Writes calls one (map_written one.object.space key (map open_of calls) n (answer_of_reply (reply_of (memory one.space.host) command)) call) (called one.space cpu command)) (sym none)
     (subst (λ reply. Writes calls one (map_written one.object.space key (map open_of calls) 0 (answer_of_reply reply) call) (called one.space cpu command)) (sym is)
-    (record { after = calls; goes = refused-goes one one.object.space key ended (called one.space cpu command) below told taken refl refl same; begun = refl; below = still-below key (key + 1) calls (omega (arith)) below }))
+    (record { after = calls; goes = at-once-goes one one.object.space key ended one.kernel (called one.space cpu command) below told taken refl refl refl (λ h. h) (subst (λ s. Agree s one.kernel one.name one.object) same one.agree); begun = refl; below = still-below key (key + 1) calls (omega (arith)) below }))
 
 -- a reply is the first refusal that applies, or the answer
 pub by-refusal : (P : Reply → Type 0) (refusals : List (Bool × Errno)) (answer : Reply) → ((errno : Errno) → P (Reply.Refused errno)) → P answer → P (first_refusal refusals answer)
@@ -630,7 +632,7 @@ munmap-written : {calls : List Pending} (one : Counterparts) (key cpu addr len :
 unfolding on_space
 munmap-written {calls = calls} one key cpu addr len below told enabled asked mapping is =
     let command = Command.Munmap addr len in
-    let took = munmap-taken (map-call calls one key below told enabled asked) cpu addr len is in
+    let took = munmap-taken (map-call calls one key (apart key calls below) told enabled asked) cpu addr len is in
     let first = addr / 4096 in
     let count = pages_of len in
     let w = is_watched one.space.object first count in
@@ -645,6 +647,7 @@ munmap-written {calls = calls} one key cpu addr len below told enabled asked map
       first = first;
       count = count;
       call = call.Munmap addr len;
+      keeps = λ space. refl;
       answer = Done;
       still = refl;
       out = refl;
@@ -700,7 +703,7 @@ unfolding on_space
 mmap-written {calls = calls} one key cpu len prot place addr flags start below told enabled asked mapping is placed =
     let command = Command.Mmap len prot place in
     let called_with = call.Mmap addr len (bits_of prot) flags in
-    let took = mmap-taken (map-call calls one key below told enabled asked) cpu len prot place start addr flags is placed in
+    let took = mmap-taken (map-call calls one key (apart key calls below) told enabled asked) cpu len prot place start addr flags is placed in
     let first = start / 4096 in
     let count = pages_of len in
     let w = is_watched one.space.object first count in
@@ -716,6 +719,7 @@ mmap-written {calls = calls} one key cpu len prot place addr flags start below t
       first = first;
       count = count;
       call = called_with;
+      keeps = λ space. refl;
       answer = Value start;
       still = refl;
       out = refl;
@@ -769,17 +773,20 @@ same-place memory len prot addr start is =
     there : (fixed same : Bool) → same ≡ true → (not fixed || same) ≡ true
     there fixed same is = grind (arith, nat_tests)
 
-pub command-writes : {calls : List Pending} (one : Counterparts) (key cpu : ℕ) (command : Command) → AreBelow key calls → HasCalls calls one → one.space.object.enabled ≡ true → has_events one.space.object ≡ true → IsMapping one.space.host.areas → is_access command ≡ false → is_followed command ≡ true →
+-- whether a command maps or unmaps pages
+abbrev pub maps_or_unmaps : Command → Bool
+maps_or_unmaps (Command.Mmap len prot place) = true
+maps_or_unmaps (Command.Munmap addr len) = true
+maps_or_unmaps command = false
+
+pub command-writes : {calls : List Pending} (one : Counterparts) (key cpu : ℕ) (command : Command) → AreBelow key calls → HasCalls calls one → one.space.object.enabled ≡ true → has_events one.space.object ≡ true → IsMapping one.space.host.areas → maps_or_unmaps command ≡ true →
     Writes calls one (issue_written one.object.space key (map open_of calls) one.space command (map_call command)) (called one.space cpu command)
-command-writes one key cpu (Command.Load addr width) below told enabled asked mapping access followed = absurd (false≢true (sym access))
-command-writes one key cpu (Command.Store addr width value) below told enabled asked mapping access followed = absurd (false≢true (sym access))
-command-writes one key cpu (Command.Mmap len prot Place.Anywhere) below told enabled asked mapping access followed = mmap-writes one key cpu len prot Place.Anywhere 0 0x22 below told enabled asked mapping (λ start is. free-placed start)
-command-writes one key cpu (Command.Mmap len prot (Place.Fixed addr)) below told enabled asked mapping access followed =
+command-writes one key cpu (Command.Mmap len prot Place.Anywhere) below told enabled asked mapping is = mmap-writes one key cpu len prot Place.Anywhere 0 0x22 below told enabled asked mapping (λ start is. free-placed start)
+command-writes one key cpu (Command.Mmap len prot (Place.Fixed addr)) below told enabled asked mapping is =
     mmap-writes one key cpu len prot (Place.Fixed addr) addr 0x32 below told enabled asked mapping (λ start is. same-place (memory one.space.host) len prot addr start is)
-command-writes one key cpu (Command.Mmap len prot (Place.NoReplace addr)) below told enabled asked mapping access followed = mmap-writes one key cpu len prot (Place.NoReplace addr) addr 0x100022 below told enabled asked mapping (λ start is. fresh-placed addr start)
-command-writes one key cpu (Command.Munmap addr len) below told enabled asked mapping access followed = munmap-writes one key cpu addr len below told enabled asked mapping
-command-writes one key cpu (Command.Mremap addr old_len new_len may_move fixed) below told enabled asked mapping access followed = absurd (false≢true followed)
-command-writes one key cpu (Command.DontNeed addr len) below told enabled asked mapping access followed = absurd (false≢true followed)
+command-writes one key cpu (Command.Mmap len prot (Place.NoReplace addr)) below told enabled asked mapping is = mmap-writes one key cpu len prot (Place.NoReplace addr) addr 0x100022 below told enabled asked mapping (λ start is. fresh-placed addr start)
+command-writes one key cpu (Command.Munmap addr len) below told enabled asked mapping is = munmap-writes one key cpu addr len below told enabled asked mapping
+command-writes one key cpu command below told enabled asked mapping is = absurd (false≢true is)
 
 -- an access is none
 pub no-map-call : (command : Command) → is_access command ≡ true → map_call command ≡ None

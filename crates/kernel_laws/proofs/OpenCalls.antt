@@ -21,7 +21,8 @@ use Rattle.kernel_rules.specs.Runs as runs
 use Rattle.kernel_rules.specs.Runs.{begun_of, effect_at_end, without_begun}
 use Rattle.kernel_rules.specs.State.{Kernel, fresh_kernel, is_range}
 use Rattle.kernel_laws.specs.Agreement.{AreUntold, Counterparts, are_once, have_ranks, is_of_another, message_of, messages_of, telling}
-use Rattle.kernel_laws.specs.Logs.{Open, under_way}
+use Rattle.mig_model.specs.Space.{Space}
+use Rattle.kernel_laws.specs.Logs.{Open, under_way, without_cleared}
 use Rattle.kernel_laws.proofs.EventReads.{all-kept, same-rest}
 use Rattle.kernel_laws.proofs.Unmaps.{filtered-none}
 
@@ -38,7 +39,7 @@ pub record Pending : Type 0 where
 abbrev pub open_of : Pending → Open
 open_of one =
     record {
-      made = record { key = one.key; space = one.home; call = one.call; last = false };
+      made = record { key = one.key; space = one.home; thread = 0; program = 0; call = one.call; last = false };
       out = record { answer = one.answer; messages = []; runs = [] };
       left = 1;
     }
@@ -67,9 +68,10 @@ HasCalls pending one = telling one.kernel ≡ telling_of one.name pending
 abbrev pub MayWake : (start end : ℕ) → Type 0
 MayWake start end = is_range (max start LOW) (end - start - (LOW - start)) ≡ true
 
--- its UFFDIO_WAKE is of whole pages, and it was not interrupted
+-- its UFFDIO_WAKE is of whole pages, it is to clear no page, and it was not interrupted
 pub record IsGood (one : Pending) : Type 0 where
   pub wakes : MayWake one.start one.end
+  pub keeps : (space : Space) → without_cleared space one.call ≡ space
   pub ends : Some (open_of one).out ≡ effect_at_end one.answer (open_of one).out
 
 -- the calls have numbers of their own, below this one
@@ -210,7 +212,7 @@ unread-of key name pending events below are = sym (all-messages key name pending
 
 -- one that has begun, and taken effect
 abbrev pub over_of : Pending → runs.Begun
-over_of one = record { made = (open_of one).made; out = Some (open_of one).out }
+over_of one = record { made = (open_of one).made; out = Some (open_of one).out; left = 0 }
 
 -- the calls that have begun
 abbrev pub begun_calls : List Pending → List runs.Begun

@@ -69,6 +69,8 @@ page-put space first count name page bytes protect true (Some one) sound is abse
       registered = agrees.registered;
       absent = λ missing. absurd (false≢true missing);
       present = λ there. present-put space first count page bytes protect is;
+      whole = refl;
+      plain = agrees.plain;
       guarded = λ guarded. guarded-put space first count page bytes protect sound (absent refl) guarded;
     }
 page-put space first count name page bytes protect false (Some one) sound is absent agrees =
@@ -79,5 +81,7 @@ page-put space first count name page bytes protect false (Some one) sound is abs
       registered = agrees.registered;
       absent = λ missing. same-put space first count page bytes protect is ∙ agrees.absent missing;
       present = λ there. same-put space first count page bytes protect is ∙ agrees.present there;
+      whole = agrees.whole;
+      plain = agrees.plain;
       guarded = λ guarded. agrees.guarded (left-put space first count page bytes protect is guarded);
     }

@@ -52,6 +52,8 @@ page-changed space first count name page protect every true one sound inside agr
       registered = agrees.registered;
       absent = agrees.absent;
       present = agrees.present;
+      whole = agrees.whole;
+      plain = agrees.plain;
       guarded = guarded-now space first count page protect every (is_missing one.presence) inside agrees.absent;
     }
 page-changed space first count name page protect every false one sound inside agrees is =
@@ -62,6 +64,8 @@ page-changed space first count name page protect every false one sound inside ag
       registered = agrees.registered;
       absent = agrees.absent;
       present = agrees.present;
+      whole = agrees.whole;
+      plain = agrees.plain;
       guarded = λ guarded. absurd (false≢true (sym is ∙ agrees.protect ∙ sound.watched page guarded));
     }
 
@@ -78,6 +82,8 @@ page-protect space first count name page protect every false (Some one) sound is
       registered = agrees.registered;
       absent = agrees.absent;
       present = agrees.present;
+      whole = agrees.whole;
+      plain = agrees.plain;
       guarded = λ guarded. agrees.guarded (left-guarded space first count page protect is guarded);
     }
 
@@ -164,7 +170,7 @@ perhaps-page space name page protect true (Some one) agrees = perhaps (protect &
   perhaps : (b : Bool) → IsPage space name page one → IsPage space name page (cond b (record one { guarded = true }) one)
   perhaps false agrees = agrees
   perhaps true agrees =
-      record { object = agrees.object; missing = agrees.missing; protect = agrees.protect; registered = agrees.registered; absent = agrees.absent; present = agrees.present; guarded = λ guarded. refl }
+      record { object = agrees.object; missing = agrees.missing; protect = agrees.protect; registered = agrees.registered; absent = agrees.absent; present = agrees.present; whole = agrees.whole; plain = agrees.plain; guarded = λ guarded. refl }
 
 not-each : (space : Space) (kernel : Kernel) (name : ℕ) (object : Object) (first count : ℕ) (each : Bool) → Agree space kernel name object → is_every (λ page. contains space.object.protect page) first count ≡ false →
     each_page kernel object.space first count (λ page. page.protect) ≡ each → each ≡ false

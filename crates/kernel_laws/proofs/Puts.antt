@@ -19,13 +19,14 @@ use Rattle.mig_model.proofs.memory.Registering.{pages_again}
 use Rattle.mig_model.proofs.memory.IoctlLemmas.{every_page, least_bound}
 use Rattle.uffd_log.specs.declared.errno.Errno.TheVariants as number
 use Rattle.uffd_log.specs.declared.line.Answer.TheVariants as answer
+use Rattle.kernel_rules.specs.declared.filling.Filling.{Filling}
 use Rattle.kernel_rules.specs.declared.known.Page.{Page}
 use Rattle.kernel_rules.specs.declared.known.Presence.TheVariants.{Present}
 use Rattle.kernel_rules.specs.declared.object.Object.{Object}
 use Rattle.kernel_rules.specs.Changes.{page_with}
 use Rattle.kernel_rules.specs.Faults.{sleeps_in, woken}
-use Rattle.kernel_rules.specs.Ioctls.{halted_at, is_changing, is_right, may_be_put, put_in_part, put_with, refused_while_changing, stop_noted, stopped_at, with_put}
-use Rattle.kernel_rules.specs.Pages.{is_missing, is_present, may_be_missing, may_be_there, put_page}
+use Rattle.kernel_rules.specs.Ioctls.{halted_at, is_changing, is_right, may_be_put, filled_in_part, put_with, putting, refused_while_changing, stop_noted, stopped_at, with_put}
+use Rattle.kernel_rules.specs.Pages.{found_there, is_missing, is_present, may_be_missing, may_be_there, may_stop, put_page}
 use Rattle.kernel_rules.specs.State.{Kernel, allowed, page_is, pages_changed, with_object}
 use Rattle.kernel_laws.specs.Agreement.{Agree, AgreesAt, IsPage, Takes, answer_of_put, put_answer as told}
 use Rattle.kernel_laws.proofs.Kernels.{agree-woken}
@@ -107,11 +108,19 @@ agree-put space kernel name object first done bits bytes agree sound absent =
 
 -- A call that stops
 
-shown-page : (space : Space) (name page : ℕ) (b : Bool) (found : Option Page) → (b ≡ true → contains_key space.host.bytes page ≡ true) → AgreesAt space name page found → AgreesAt space name page (cond b (page_with (λ p. record p { presence = Present }) found) found)
-shown-page space name page false found there agrees = agrees
-shown-page space name page true None there agrees = agrees
-shown-page space name page true (Some one) there agrees =
-    record { object = agrees.object; missing = agrees.missing; protect = agrees.protect; registered = agrees.registered; absent = λ missing. absurd (false≢true missing); present = λ seen. there refl; guarded = agrees.guarded }
+shown-page : (space : Space) (name page : ℕ) (how : Filling) (b : Bool) (found : Option Page) → (b ≡ true → contains_key space.host.bytes page ≡ true) → AgreesAt space name page found → AgreesAt space name page (cond b (page_with (found_there how.cached how.marked) found) found)
+shown-page space name page how false found there agrees = agrees
+shown-page space name page how true None there agrees = agrees
+shown-page space name page how true (Some one) there agrees =
+    subst (IsPage space name page) (sym (ap (λ b. cond (b || elsewhere) one (record one { presence = Present })) agrees.whole)) (by elsewhere)
+  where
+    elsewhere : Bool
+    elsewhere = may_stop how.cached how.marked one
+
+    by : (b : Bool) → IsPage space name page (cond b one (record one { presence = Present }))
+    by true = agrees
+    by false =
+        record { object = agrees.object; missing = agrees.missing; protect = agrees.protect; registered = agrees.registered; absent = λ missing. absurd (false≢true missing); present = λ seen. there refl; whole = refl; plain = agrees.plain; guarded = agrees.guarded }
 
 agree-stop : (put : Bool) (key : ℕ) (space : Space) (kernel : Kernel) (name : ℕ) (object : Object) → Agree space kernel name object → Agree space (stop_noted kernel put key) name object
 agree-stop true key space kernel name object agree =
@@ -122,15 +131,15 @@ agree-stop false key space kernel name object agree =
 one_page : (s page q : ℕ) → (eqb s s && in_range page 1 q) ≡ true → page ≡ q
 one_page s page q h = grind (arith, nat_tests)
 
-agree-shown : (space : Space) (kernel : Kernel) (name : ℕ) (object : Object) (page : ℕ) → Agree space kernel name object → contains_key space.host.bytes page ≡ true → Agree space (pages_changed kernel object.space page 1 (λ p. record p { presence = Present })) name object
-agree-shown space kernel name object page agree there =
+agree-shown : (space : Space) (kernel : Kernel) (name : ℕ) (object : Object) (page : ℕ) (how : Filling) → Agree space kernel name object → contains_key space.host.bytes page ≡ true → Agree space (pages_changed kernel object.space page 1 (found_there how.cached how.marked)) name object
+agree-shown space kernel name object page how agree there =
     record {
       sound = agree.sound;
       named = agree.named;
       features = agree.features;
       unread = agree.unread;
       pages = λ q.
-          shown-page space name q (eqb object.space object.space && in_range page 1 q) (kernel.pages object.space q)
+          shown-page space name q how (eqb object.space object.space && in_range page 1 q) (kernel.pages object.space q)
           (λ inside. subst (λ at. contains_key space.host.bytes at ≡ true) (one_page object.space page q inside) there) (agree.pages q);
       untold = agree.untold;
       alone = agree.alone;
@@ -140,25 +149,26 @@ agree-shown space kernel name object page agree there =
 may-be-there : (absent missing has : Bool) → (absent ≡ true → has ≡ false) → has ≡ true → (not absent || not missing) ≡ true
 may-be-there absent missing has tells there = grind (arith, nat_tests)
 
-pub stopped : (space : Space) (kernel : Kernel) (key name : ℕ) (object : Object) (page : ℕ) (found : Option Page) → Agree space kernel name object → is_registered space.object page ≡ true → contains_key space.host.bytes page ≡ true → kernel.pages object.space page ≡ found →
-    Takes (stopped_at kernel key object.space page) space name
-stopped space kernel key name object page None agree registered there is =
+pub stopped : (space : Space) (kernel : Kernel) (key name : ℕ) (object : Object) (page : ℕ) (how : Filling) (found : Option Page) → Agree space kernel name object → is_registered space.object page ≡ true → contains_key space.host.bytes page ≡ true → kernel.pages object.space page ≡ found →
+    Takes (stopped_at kernel key object.space page how) space name
+stopped space kernel key name object page how None agree registered there is =
     absurd (false≢true (sym (subst (AgreesAt space name page) is (agree.pages page)) ∙ registered))
-stopped space kernel key name object page (Some one) agree registered there is =
+stopped space kernel key name object page how (Some one) agree registered there is =
     let agrees : IsPage space name page one = subst (AgreesAt space name page) is (agree.pages page) in
-    let new = pages_changed (stop_noted kernel one.put key) object.space page 1 (λ p. record p { presence = Present }) in
+    let put = one.put && may_be_there one in
+    let new = pages_changed (stop_noted kernel put key) object.space page 1 (found_there how.cached how.marked) in
     let may : may_be_there one ≡ true = may-be-there (is_missing one.presence) one.missing (contains_key space.host.bytes page) agrees.absent there in
     record {
       kernel = new;
       object = object;
       taken = rw (is, may) refl;
-      agree = agree-shown space (stop_noted kernel one.put key) name object page (agree-stop one.put key space kernel name object agree) there;
+      agree = agree-shown space (stop_noted kernel put key) name object page how (agree-stop put key space kernel name object agree) there;
     }
 
-pub halted : (space : Space) (kernel : Kernel) (key name : ℕ) (object : Object) (page : ℕ) (b : Bool) → Agree space kernel name object → is_registered space.object page ≡ true → contains_key space.host.bytes page ≡ true → page_is (λ p. is_present p.presence) (kernel.pages object.space page) ≡ b →
-    Takes (cond b (stopped_at kernel key object.space page) (allowed (page_is (λ p. true) (kernel.pages object.space page)) kernel)) space name
-halted space kernel key name object page true agree registered there is = stopped space kernel key name object page (kernel.pages object.space page) agree registered there refl
-halted space kernel key name object page false agree registered there is =
+pub halted : (space : Space) (kernel : Kernel) (key name : ℕ) (object : Object) (page : ℕ) (how : Filling) (b : Bool) → Agree space kernel name object → is_registered space.object page ≡ true → contains_key space.host.bytes page ≡ true → page_is (λ p. is_present p.presence) (kernel.pages object.space page) ≡ b →
+    Takes (cond b (stopped_at kernel key object.space page how) (allowed (page_is (λ p. true) (kernel.pages object.space page)) kernel)) space name
+halted space kernel key name object page how true agree registered there is = stopped space kernel key name object page how (kernel.pages object.space page) agree registered there refl
+halted space kernel key name object page how false agree registered there is =
     record {
       kernel = kernel;
       object = object;
@@ -219,8 +229,8 @@ ends-first space kernel key name object start len bits most bytes call sound som
     let at : first + 0 ≡ first = omega (arith) in
     let registered = subst (λ page. is_registered space.object page ≡ true) at (registered-in space first (len / 4096) 0 call.area some) in
     let here = same-put space first 0 first bytes (is_one bits 1) (in_range-none first first) ∙ subst (λ page. contains_key space.host.bytes page ≡ true) at there in
-    subst (λ rule. Takes rule new name) (sym (ap (λ b. cond b (stopped_at kernel key object.space first) None) call.right))
-    (stopped new kernel key name object first (kernel.pages object.space first) (agree-none space kernel name object first bytes (is_one bits 1) call.agree sound) registered here refl)
+    subst (λ rule. Takes rule new name) (sym (ap (λ b. cond b (stopped_at kernel key object.space first (putting bits most true)) None) call.right))
+    (stopped new kernel key name object first (putting bits most true) (kernel.pages object.space first) (agree-none space kernel name object first bytes (is_one bits 1) call.agree sound) registered here refl)
 
 -- a later page is
 ends-later : (space : Space) (kernel : Kernel) (key name : ℕ) (object : Object) (start len bits most done : ℕ) (bytes : ℕ → List ℕ) → IsCall space kernel name object start len bits most → IsSoundSpace (installed space (start / 4096) done bytes (is_one bits 1)) → done < len / 4096 → 0 < done →
@@ -234,13 +244,13 @@ ends-later space kernel key name object start len bits most done bytes call soun
     let after : Object = record object { puts = true } in
     let may = may-put space kernel name object first (len / 4096) done bits call.agree call.area call.watched (omega (arith, few)) absent in
     let here = same-put space first done page bytes (is_one bits 1) (in_range-end first done) ∙ there in
-    let halt = halted new put key name after page (page_is (λ p. is_present p.presence) (put.pages after.space page)) (agree-put space kernel name object first done bits bytes call.agree sound absent) (registered-in space first (len / 4096) done call.area few) here refl in
+    let halt = halted new put key name after page (putting bits most true) (page_is (λ p. is_present p.presence) (put.pages after.space page)) (agree-put space kernel name object first done bits bytes call.agree sound absent) (registered-in space first (len / 4096) done call.area few) here refl in
     let parts = and_from (ltb 0 (4096 * done) && ltb (4096 * done) len && eqb (4096 * done % 4096) 0) (is_right object start len bits most) (part len done few some) call.right in
     subst (λ rule. Takes rule new name)
     (sym
-    (ap (λ b. cond b (put_in_part kernel key name object first (4096 * done / 4096) bits) (refused_while_changing kernel name)) parts
-    ∙ ap (λ n. put_in_part kernel key name object first n bits) (pages_again done)
-    ∙ ap (λ b. cond b (halted_at put key object.space page) None) may)) halt
+    (ap (λ b. cond b (filled_in_part kernel key name object first (4096 * done / 4096) (putting bits most true)) (refused_while_changing kernel name)) parts
+    ∙ ap (λ n. filled_in_part kernel key name object first n (putting bits most true)) (pages_again done)
+    ∙ ap (λ b. cond b (halted_at put key object.space page (putting bits most true)) None) may)) halt
 
 -- by the first page that is present
 stops : (space : Space) (kernel : Kernel) (key name : ℕ) (object : Object) (start len bits most : ℕ) (bytes : ℕ → List ℕ) (o : Option ℕ) → IsCall space kernel name object start len bits most →

@@ -25,9 +25,9 @@ use Rattle.kernel_rules.specs.declared.object.Object.{Object}
 use Rattle.kernel_rules.specs.Faults.{sleeps_in, woken}
 use Rattle.kernel_rules.specs.Ioctls as rules
 use Rattle.kernel_rules.specs.Ioctls.{has_calls, is_mode, is_offer, may_shake, shaken, with_handshake}
-use Rattle.kernel_rules.specs.Pages.{is_missing, is_present, known_as, registered_page, without_object}
+use Rattle.kernel_rules.specs.Pages.{is_missing, is_present, is_poisoned, known_as, registered_page, without_object}
 use Rattle.kernel_rules.specs.declared.known.Presence.{Presence}
-use Rattle.kernel_rules.specs.declared.known.Presence.TheVariants.{Unknown, Missing, Present}
+use Rattle.kernel_rules.specs.declared.known.Presence.TheVariants.{Unknown, Missing, Present, Poisoned}
 use Rattle.kernel_rules.specs.State.{Kernel, allowed, asked_for, is_enabled, is_range, is_within, noted_if, page_is, some_page, with_object}
 use Rattle.kernel_laws.specs.Agreement.{Agree, AgreesAt, AreMapped, AreUnread, IsPage, Takes, answer_of_api, answer_of_register, answer_of_wake, has_page}
 use Rattle.kernel_laws.proofs.Calls.{refused}
@@ -63,7 +63,7 @@ some_feature (suc features) h = grind (arith, nat_tests)
 page-enabled : (space : Space) (features name page : ℕ) (found : Option Page) → AgreesAt space name page found → AgreesAt (record space { object = enabled_with space.object features }) name page found
 page-enabled space features name page None agrees = agrees
 page-enabled space features name page (Some one) agrees =
-    record { object = agrees.object; missing = agrees.missing; protect = agrees.protect; registered = agrees.registered; absent = agrees.absent; present = agrees.present; guarded = agrees.guarded }
+    record { object = agrees.object; missing = agrees.missing; protect = agrees.protect; registered = agrees.registered; absent = agrees.absent; present = agrees.present; whole = agrees.whole; plain = agrees.plain; guarded = agrees.guarded }
 
 agree-shaken : (space : Space) (kernel : Kernel) (name : ℕ) (object : Object) (features : ℕ) → Agree space kernel name object → space.object.faults ≡ [] → IsSoundSpace (record space { object = enabled_with space.object features }) →
     Agree (record space { object = enabled_with space.object features }) (with_object kernel name (record object { features = Some features })) name (record object { features = Some features })
@@ -146,6 +146,8 @@ page-unregistered space first count name page false (Some one) is agrees =
       registered = (λ i. same.0 i || same.1 i) ∙ agrees.registered;
       absent = agrees.absent;
       present = agrees.present;
+      whole = agrees.whole;
+      plain = agrees.plain;
       guarded = λ guarded. agrees.guarded (still-protected space first count page guarded);
     }
 
@@ -216,16 +218,25 @@ missing-known : (missing : Bool) (presence : Presence) → is_missing (known_as 
 missing-known missing Unknown h = h
 missing-known missing Missing h = refl
 missing-known missing Present h = h
+missing-known missing Poisoned h = h
 
 present-known : (missing : Bool) (presence : Presence) → is_present (known_as missing presence) ≡ true → is_present presence ≡ true
 present-known missing Unknown h = h
 present-known true Missing h = h
 present-known false Missing h = h
 present-known missing Present h = refl
+present-known missing Poisoned h = h
+
+whole-known : (missing : Bool) (presence : Presence) → is_poisoned presence ≡ false → is_poisoned (known_as missing presence) ≡ false
+whole-known missing Unknown h = refl
+whole-known true Missing h = refl
+whole-known false Missing h = refl
+whole-known missing Present h = refl
+whole-known missing Poisoned h = h
 
 -- a page that the object had registered: it keeps its modes if it has all, or else has those
 page-again : (space : Space) (first count name page : ℕ) (mode : Mode) (all : Bool) (one : Page) → IsSoundSpace space → (mode.missing || mode.protect) ≡ true → in_range first count page ≡ true → contains_key space.host.areas page ≡ true → IsPage space name page one →
-    has_modes space.object page mode ≡ all → IsPage (registered_in space first count mode) name page (cond all one (record one { missing = mode.missing; protect = mode.protect; presence = known_as mode.missing one.presence; guarded = one.guarded && mode.protect }))
+    has_modes space.object page mode ≡ all → IsPage (registered_in space first count mode) name page (cond all one (record one { missing = mode.missing; protect = mode.protect; minor = false; presence = known_as mode.missing one.presence; guarded = one.guarded && mode.protect }))
 page-again space first count name page mode true one sound some inside mapped agrees all =
     let modes = modes-of space first count page mode inside mapped (below_high space page sound mapped) in
     let missing = modes.0 ∙ ap (λ b. cond b (contains space.object.missing page) mode.missing) all in
@@ -237,6 +248,8 @@ page-again space first count name page mode true one sound some inside mapped ag
       registered = (λ i. missing i || protect i) ∙ agrees.registered;
       absent = agrees.absent;
       present = agrees.present;
+      whole = agrees.whole;
+      plain = agrees.plain;
       guarded = λ guarded. agrees.guarded (guarded-left space first count page mode guarded);
     }
 page-again space first count name page mode false one sound some inside mapped agrees all =
@@ -250,11 +263,13 @@ page-again space first count name page mode false one sound some inside mapped a
       registered = (λ i. missing i || protect i) ∙ some;
       absent = λ missing. agrees.absent (missing-known mode.missing one.presence missing);
       present = λ there. agrees.present (present-known mode.missing one.presence there);
+      whole = whole-known mode.missing one.presence agrees.whole;
+      plain = refl;
       guarded = λ guarded. and_from one.guarded mode.protect (agrees.guarded (guarded-left space first count page mode guarded)) (guarded-mode space first count page mode inside mapped all guarded);
     }
 
 page-registered : (space : Space) (first count name page : ℕ) (mode : Mode) (b : Bool) (found : Option Page) → IsSoundSpace space → (mode.missing || mode.protect) ≡ true → in_range first count page ≡ b → (b ≡ true → contains_key space.host.areas page ≡ true) →
-    AgreesAt space name page found → AgreesAt (registered_in space first count mode) name page (cond b (registered_page name mode found) found)
+    AgreesAt space name page found → AgreesAt (registered_in space first count mode) name page (cond b (registered_page name mode false found) found)
 page-registered space first count name page mode false None sound some is mapped agrees =
     let same = modes-left space first count page mode sound is in
     (λ i. same.0 i || same.1 i) ∙ agrees
@@ -267,6 +282,8 @@ page-registered space first count name page mode false (Some one) sound some is 
       registered = (λ i. same.0 i || same.1 i) ∙ agrees.registered;
       absent = agrees.absent;
       present = agrees.present;
+      whole = agrees.whole;
+      plain = agrees.plain;
       guarded = λ guarded. agrees.guarded (guarded-left space first count page mode guarded);
     }
 page-registered space first count name page mode true None sound some is mapped agrees =
@@ -281,6 +298,8 @@ page-registered space first count name page mode true None sound some is mapped 
       registered = (λ i. missing i || protect i) ∙ some;
       absent = λ h. absurd (false≢true h);
       present = λ h. absurd (false≢true h);
+      whole = refl;
+      plain = refl;
       guarded = λ guarded. absurd (false≢true (sym agrees ∙ or_last (contains space.object.missing page) (contains space.object.protect page) (sound.watched page (guarded-left space first count page mode guarded))));
     }
   where
@@ -305,7 +324,7 @@ ranged-registered space kernel name object first count page mode false agree is 
     ∙ ap (λ b. b || (has_page name page (record { object = name; first = first; count = count }) || false)) (agree.ranged page (sym (λ i. same.0 i || same.1 i) ∙ h))
 
 agree-registered : (space : Space) (kernel : Kernel) (name : ℕ) (object : Object) (first count : ℕ) (mode : Mode) → Agree space kernel name object → leb (first + count) (2 ^ 52) ≡ true → (mode.missing || mode.protect) ≡ true → ((page : ℕ) → in_range first count page ≡ true → contains_key space.host.areas page ≡ true) →
-    Agree (registered_in space first count mode) (rules.with_range (rules.with_registered kernel name object.space first count mode) name first count) name object
+    Agree (registered_in space first count mode) (rules.with_range (rules.with_registered kernel name object.space first count mode false) name first count) name object
 agree-registered space kernel name object first count mode agree fits some mapped =
     let at = λ (page : ℕ). ap (λ e. e && in_range first count page) (eqb-self object.space) in
     record {
@@ -334,6 +353,16 @@ any_mode (suc (suc (suc (suc bits)))) good = absurd (false≢true (sym good ∙ 
   four : (bits : ℕ) → is_bad_mode (suc (suc (suc (suc bits)))) ≡ true
   four bits = grind (arith, nat_tests)
 
+no_minor : (bits : ℕ) → is_bad_mode bits ≡ false → is_one bits 2 ≡ false
+unfolding is_one
+no_minor zero good = refl
+no_minor (suc zero) good = refl
+no_minor (suc (suc zero)) good = refl
+no_minor (suc (suc (suc zero))) good = refl
+no_minor (suc (suc (suc (suc bits)))) good = absurd (false≢true (sym good ∙ four bits)) where
+  four : (bits : ℕ) → is_bad_mode (suc (suc (suc (suc bits)))) ≡ true
+  four bits = grind (arith, nat_tests)
+
 own : (space : Space) (name page : ℕ) (found : Option Page) → AgreesAt space name page found → page_is (λ one. not (eqb one.object name)) found ≡ false
 own space name page None agrees = refl
 own space name page (Some one) agrees = ap not (ap (λ n. eqb n name) agrees.object ∙ eqb-self name)
@@ -348,7 +377,7 @@ in-space start len is = grind (arith, nat_tests)
 may_register : (c e m r o : Bool) → c ≡ true → e ≡ true → m ≡ true → r ≡ true → o ≡ false → (c && e && m && r && not o) ≡ true
 may_register c e m r o hc he hm hr ho = grind (arith, nat_tests)
 
-registers : (space : Space) (kernel : Kernel) (name : ℕ) (object : Object) (start len bits ioctls : ℕ) (e v m w b : Bool) → Agree space kernel name object → has_calls ioctls ≡ true → is_enabled object ≡ e → is_bad_mode bits ≡ m → is_bad_range start len ≡ w →
+registers : (space : Space) (kernel : Kernel) (name : ℕ) (object : Object) (start len bits ioctls : ℕ) (e v m w b : Bool) → Agree space kernel name object → has_calls bits ioctls ≡ true → is_enabled object ≡ e → is_bad_mode bits ≡ m → is_bad_range start len ≡ w →
     let errors : List (Bool × Errno) = (not e, Errno.Einval) ∷ (v, Errno.Einval) ∷ (m, Errno.Einval) ∷ (w, Errno.Einval) ∷ (b, Errno.Einval) ∷ [] in
     (first_holding errors ≡ None → AreMapped space start len) →
     Takes (rules.registered kernel name object start len bits (answer_of_register ioctls (first_holding errors))) (left_by (first_holding errors) space (registered_in space (start / 4096) (len / 4096) (mode_of bits))) name
@@ -362,17 +391,20 @@ registers space kernel name object start len bits ioctls true false false false 
     let count = len / 4096 in
     let mode = mode_of bits in
     let other = some_page kernel object.space first count (λ page. not (eqb page.object name)) in
-    let put = rules.with_range (rules.with_registered kernel name object.space first count mode) name first count in
+    let by : Bool → Kernel = λ minor. rules.with_range (rules.with_registered kernel name object.space first count mode minor) name first count in
+    let put = by (is_one bits 2) in
     let without = not (asked_for object 2 && asked_for object 3 && asked_for object 6) in
     let new = noted_if without RegisterWithoutEvents put in
     record {
       kernel = new;
       object = object;
-      taken = ap (λ b. allowed b new) (may_register (has_calls ioctls) (is_enabled object) (is_mode bits) (is_range start len) other calls he (right_mode bits hm) (right_range start len hw) (no-other space kernel name object first count agree));
-      agree = agree-noted without RegisterWithoutEvents (registered_in space first count mode) put name object (agree-registered space kernel name object first count mode agree (in-space start len (right_range start len hw)) (any_mode bits hm) (mapped refl));
+      taken = ap (λ b. allowed b new) (may_register (has_calls bits ioctls) (is_enabled object) (is_mode bits) (is_range start len) other calls he (right_mode bits hm) (right_range start len hw) (no-other space kernel name object first count agree));
+      agree = agree-noted without RegisterWithoutEvents (registered_in space first count mode) put name object
+          (subst (λ minor. Agree (registered_in space first count mode) (by minor) name object) (sym (no_minor bits hm))
+          (agree-registered space kernel name object first count mode agree (in-space start len (right_range start len hw)) (any_mode bits hm) (mapped refl)));
     }
 
-pub register-taken : (space : Space) (kernel : Kernel) (name : ℕ) (object : Object) (start len bits ioctls : ℕ) → Agree space kernel name object → has_calls ioctls ≡ true → (register_error space start len bits ≡ None → AreMapped space start len) →
+pub register-taken : (space : Space) (kernel : Kernel) (name : ℕ) (object : Object) (start len bits ioctls : ℕ) → Agree space kernel name object → has_calls bits ioctls ≡ true → (register_error space start len bits ≡ None → AreMapped space start len) →
     Takes (rules.registered kernel name object start len bits (answer_of_register ioctls (register_error space start len bits))) (registered space start len bits) name
 register-taken space kernel name object start len bits ioctls agree calls mapped =
     registers space kernel name object start len bits ioctls space.object.enabled (not (has_events space.object)) (is_bad_mode bits) (is_bad_range start len) (is_bare space (start / 4096) (len / 4096)) agree calls (is-enabled agree) refl refl mapped

@@ -9,7 +9,6 @@ use Rattle.mig_base.specs.declared.command.Access.TheVariants.{Answered, Missing
 use Rattle.mig_base.specs.declared.command.Command.{Command}
 use Rattle.mig_base.specs.declared.command.Reply.{Reply}
 use Rattle.mig_base.specs.declared.message.Message.{Message}
-use Rattle.mig_base.specs.declared.phase.SourcePhase.{SourcePhase}
 use Rattle.mig_base.specs.declared.schedule.Step.{Step}
 use Rattle.mig_base.specs.Bits.{is_one}
 use Rattle.mig_base.specs.Ranges.{none_below}
@@ -37,17 +36,14 @@ use Rattle.kernel_rules.specs.MapCalls.{returned}
 use Rattle.kernel_rules.specs.Runs.{Leads, line_of, lines_of, on_object}
 use Rattle.kernel_rules.specs.State.{Kernel, allowed, fresh_kernel, of_object, with_object}
 use Rattle.kernel_laws.specs.Agreement.{Agree, AreUnread, AreUntold, Counterparts, features_of, telling}
-use Rattle.kernel_laws.specs.Logs.{Beginning, HasRun, AreFollowed, IsUnreleased, Watching, answered, at_rest, log_of, source, source_log, space_after, under_way, unnamed, unnamed_features, unnamed_noted}
+use Rattle.kernel_laws.specs.Logs.{AreFollowed, Beginning, HasRun, IsLogged, IsUnreleased, Watching, answered, at_rest, log_of, source, source_left, source_log, under_way, unnamed, unnamed_features, unnamed_noted}
 use Rattle.kernel_laws.proofs.FirstCalls.{opened_kernel, opened_object, opens}
 use Rattle.kernel_laws.proofs.LogRuns.{agree-returned, call-leads, call_steps, leads-append}
-use Rattle.kernel_laws.proofs.SourceRuns.{source-logged}
+use Rattle.kernel_laws.proofs.SourceRuns.{IsBare, always, bare-idle, is-idle, source-logged}
+use Rattle.kernel_laws.proofs.States.{free, logged-from}
 use Rattle.kernel_laws.proofs.Unnamed.{sound-unnamed}
 
 -- No fault is unread
-
--- no page is registered
-abbrev IsBare : Object → Type 0
-IsBare object = (page : ℕ) → (contains object.missing page ≡ false) × (contains object.protect page ≡ false)
 
 none-missing : (made absent missing protect : Bool) (reply : Reply) → missing ≡ false → protect ≡ false → cond (not made) (Answered reply) (cond (absent && missing) Missing (cond protect Protected (Answered reply))) ≡ Answered reply
 none-missing made absent missing protect reply hm hp = grind (arith, nat_tests)
@@ -79,14 +75,6 @@ tried-faults false space cpu command bare =
 -- while no migration has started
 abbrev IsUnasked : World → Type 0
 IsUnasked world = is_source_idle world.source.phase ≡ true → world.source.guest.space.object.faults ≡ []
-
-is-idle : (phase : SourcePhase) → is_source_idle phase ≡ true → phase ≡ SourcePhase.Idle
-is-idle phase h = grind (arith, nat_tests)
-
-bare-idle : (world : World) → IsSoundWorld world → is_source_idle world.source.phase ≡ true → IsBare world.source.guest.space.object
-bare-idle world kept idle page =
-    let missing = (kept.precopy.idle_source (is-idle world.source.phase idle)).4 page in
-    (missing, sym (kept.spaces.both_modes page) ∙ missing)
 
 guest-faults : (ran : Bool) (world : World) (cpu : ℕ) (command : Command) → IsSoundWorld world → IsUnasked world →
     IsUnasked (with_guest_by ran world (tried (is_access command) (guest_by ran world.source.guest world.destination.guest) cpu command))
@@ -128,7 +116,7 @@ shakes on offer offers =
     let ended = answered (call.Api on 0xaa unnamed_features) (Features all_features offer) in
     let kernel = returned (opened_kernel on.object) 0 in
     call-leads [] kernel (shaken_kernel on.object) 1 on.object ended tt
-    (ap (λ o. of_object o (λ object. on_object kernel 1 on.object object false ended.out ended.call)) (ap (λ b. cond b (Some opened_object) None) (eqb-self on.object)) ∙ shaken on.object offer offers)
+    (ap (λ o. of_object o (λ object. on_object kernel (record { key = 1; space = 0; thread = 0; program = 0; call = ended.call; last = false }) on.object object ended.out ended.call)) (ap (λ b. cond b (Some opened_object) None) (eqb-self on.object)) ∙ shaken on.object offer offers)
     refl refl refl
 
 or_none : (a b : Bool) → a ≡ false → b ≡ false → (a || b) ≡ false
@@ -157,16 +145,22 @@ agree-shaken world reached name idle =
 
 -- The whole log
 
-pub source-has-log : (it : Beginning) (steps : List Step) → AreFollowed steps → IsUnreleased it.world steps → HasRun (source_log it steps) (space_after (source it.by 0) it.world steps)
-source-has-log it steps followed kept =
+-- the kernel at rest from which the steps' log goes on
+abbrev watched-from : Beginning → Watching
+watched-from it =
     let on = it.by.on in
     let name = on.object in
     let kernel = returned (shaken_kernel name) 1 in
     let space = unnamed it.world.source.guest.space in
     let agree = agree-returned [] space (shaken_kernel name) 1 name shaken_object tt refl (agree-shaken it.world it.reached name it.idle) in
     let one : Counterparts = record { space = space; kernel = kernel; name = name; object = shaken_object; agree = agree } in
-    let at : Watching = record { world = it.world; reached = it.reached; by = it.by; one = one; same = refl; quiet = refl; own = refl } in
-    let rest = source-logged at 2 steps followed kept in
+    record { world = it.world; reached = it.reached; by = it.by; one = one; same = refl; quiet = refl; own = refl }
+
+opened-run : (it : Beginning) (steps : List Step) (space : Space) → IsLogged (watched-from it).one (log_of (source it.by 0) 2 [] it.world steps) space → HasRun (source_log it steps) space
+opened-run it steps space rest =
+    let on = it.by.on in
+    let name = on.object in
+    let kernel = returned (shaken_kernel name) 1 in
     let log = log_of (source it.by 0) 2 [] it.world steps in
     let opening = call_steps 0 (answered (call.Open false 0x800) (Opened on)) in
     let shake = call_steps 1 (answered (call.Api on 0xaa unnamed_features) (Features all_features it.offer)) in
@@ -182,3 +176,13 @@ source-has-log it steps followed kept =
       differs = rest.differs refl;
       leaves = rest.leaves;
     }
+
+pub source-has-log : (it : Beginning) (steps : List Step) → AreFollowed (source it.by 0) 2 [] it.world steps → IsUnreleased it.world steps → HasRun (source_log it steps) (source_left it steps)
+source-has-log it steps followed kept = opened-run it steps (source_left it steps) (source-logged (watched-from it) 2 steps followed kept)
+
+-- also after the release
+pub source-always-has-log : (it : Beginning) (steps : List Step) → AreFollowed (source it.by 0) 2 [] it.world steps → (space : Space) × HasRun (source_log it steps) space
+source-always-has-log it steps followed =
+    let at = watched-from it in
+    let ends = always it.by 0 it.world 2 (free [] at.one (record { same = at.same; told = at.quiet; below = tt; own = at.own; there = refl })) steps (it.reached, idle_unreleased it.world.source.phase it.idle) followed in
+    (ends.0, opened-run it steps ends.0 (logged-from at.one it.by.on.object (log_of (source it.by 0) 2 [] it.world steps) ends.0 refl ends.1))

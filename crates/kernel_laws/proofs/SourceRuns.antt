@@ -1,7 +1,7 @@
 -- The log of a source without map calls has a run, step by step.
 use Rattle.std.proofs.lemmas.Bool.Decides.{nat_tests}
 use Rattle.std.proofs.lemmas.Bool.{false≢true}
-use Rattle.std.proofs.Common.{◌≡◌, ℕ, ◌+◌, ◌*◌, ◌/◌, Bool, true, false, not, cond, eqb, ltb, Some, List, [], ◌∷◌, map, arith, refl, sym, ap, subst, ◌∙◌, IsOk}
+use Rattle.std.proofs.Common.{◌≡◌, ◌⊎◌, inl, inr, ℕ, ◌+◌, ◌*◌, ◌/◌, ◌^◌, ◌||◌, Bool, true, false, not, cond, eqb, leb, ltb, Some, List, [], ◌∷◌, ◌++◌, map, arith, refl, sym, ap, subst, ◌∙◌, IsOk}
 use Rattle.std.specs.Prelude.{Result, Ok, Err}
 use Rattle.std.specs.FinMap.{contains_key}
 use Rattle.std.specs.FinSet.{contains}
@@ -13,6 +13,8 @@ use Rattle.mig_base.specs.declared.command.Reply.{Reply}
 use Rattle.mig_base.specs.declared.message.Message.{Message}
 use Rattle.mig_base.specs.declared.refusal.Refusal.{Refusal}
 use Rattle.mig_base.specs.declared.effect.Effect.{Effect}
+use Rattle.mig_base.specs.declared.phase.DestPhase.{DestPhase}
+use Rattle.mig_base.specs.declared.phase.SourcePhase.{SourcePhase}
 use Rattle.mig_base.specs.declared.schedule.Side.{Side}
 use Rattle.mig_base.specs.declared.schedule.Step.{Step}
 use Rattle.mig_base.specs.declared.wake.Wake.{Wake}
@@ -20,20 +22,23 @@ use Rattle.mig_base.specs.declared.wake.Wake.TheVariants.{Nobody, Range}
 use Rattle.mig_base.specs.Acts.{act_effect}
 use Rattle.mig_base.specs.Bits.{is_one}
 use Rattle.mig_base.specs.Commands.{is_access, page_of}
-use Rattle.mig_base.specs.Flat.{is_page_start, mmap_reply, munmap_reply, reply_of}
-use Rattle.mig_base.specs.Ranges.{pages_of, rounded}
-use Rattle.mig_base.specs.Userfault.{Noted, Object as ModelObject, is_watched, message_read, next_message, unregistered}
+use Rattle.mig_base.specs.Flat.{dontneed_reply, is_all_mapped, is_page_start, mmap_reply, munmap_reply, reply_of}
+use Rattle.mig_base.specs.Ranges.{lesser, pages_of, rounded}
+use Rattle.mig_base.proofs.TestLemmas.{and_first, and_second}
+use Rattle.mig_base.specs.Userfault.{Noted, Object as ModelObject, is_registered, is_watched, message_read, next_message, unregistered}
 use Rattle.mig_model.specs.Bounds.{IsMapping}
 use Rattle.mig_model.specs.Cpus.{outstanding, processor_at}
-use Rattle.mig_model.specs.Guest.{Guest, space_by, tried}
+use Rattle.mig_model.specs.Guest.{Guest, is_changing, space_by, tried}
 use Rattle.mig_model.specs.Handlers.{AreRegistered, IsWriteProtect, MayRegister, registered_in_turn}
 use Rattle.mig_model.specs.Host.{memory}
 use Rattle.mig_model.specs.Ioctls.{all_features, writeprotect_error}
+use Rattle.mig_model.specs.Destination.{Destination}
+use Rattle.mig_model.specs.Invariant.{IsSoundWorld, RanAt, SwitchedAt, Wires}
 use Rattle.mig_model.specs.Migration.{World, guest_by, guest_of, next, outcome, with_guest_by}
 use Rattle.mig_model.specs.Promises.{IsReached}
-use Rattle.mig_model.specs.Source.{Source, bytes_of, is_released, source_acted_by, source_took}
+use Rattle.mig_model.specs.Source.{Source, bytes_of, is_precopy, is_released, is_source_idle, source_acted_by, source_took}
 use Rattle.mig_model.specs.Space.{Space, accessed, all_queued, called, message_if}
-use Rattle.mig_model.specs.Wire.{Frame, is_zeros}
+use Rattle.mig_model.specs.Wire.{Frame, Sent, is_zeros}
 use Rattle.mig_model.proofs.completion.StaysComplete.{complete-next}
 use Rattle.mig_model.proofs.invariant.Bounded.{bounded-reached, memory_bounded}
 use Rattle.mig_model.proofs.invariant.FaultPages.{inside-reached}
@@ -48,18 +53,26 @@ use Rattle.uffd_log.specs.declared.call.Descriptor.{Descriptor}
 use Rattle.uffd_log.specs.declared.call.Call.TheVariants as call
 use Rattle.uffd_log.specs.declared.line.Answer.TheVariants.{Done}
 use Rattle.kernel_rules.specs.declared.object.Object.{Object}
+use Rattle.kernel_rules.specs.Runs as runs
+use Rattle.kernel_rules.specs.Runs.{Leads}
 use Rattle.kernel_rules.specs.State.{Kernel}
 use Rattle.kernel_laws.specs.Agreement.{Agree, Counterparts}
-use Rattle.kernel_laws.specs.Logs.{AreFollowed, AreLogged, IsFollowed, IsUnreleased, Watch, Watching, Written, answered, calls_written, is_followed, issue_written, lines_of_calls, log_of, map_call, protect_call, read_written, register_calls, resolve_call, source, source_calls, source_writes, space_after, unnamed, unnamed_features, unnamed_object}
+use Rattle.kernel_laws.specs.Logs.{AreFollowed, AreLogged, Ended, IsFollowed, IsUnreleased, Open, Watch, Watching, Written, answered, calls_written, cleared, is_followed, issue_written, keeps_off_all, lines_of_calls, log_of, map_call, protect_call, read_written, register_calls, resolve_call, source, source_calls, source_writes, then_written, under_way, unnamed, unnamed_features, unnamed_object}
 use Rattle.mig_base.proofs.SetSizes.{only_where}
 use Rattle.kernel_laws.proofs.FaultReads.{page-requeued, requeued, sound-requeued}
 use Rattle.kernel_laws.proofs.FirstCalls.{HaveAreas, registers-logged}
 use Rattle.kernel_laws.proofs.Followed.{followed-protect, followed-wake, followed-zeropage, no_error}
-use Rattle.kernel_laws.proofs.LogRuns.{AreAll, Goes, Writes, accessed-logged, by-result, each-followed, every-logged, logged-from, protect-logged, stays, wake-logged, writes-calls, zeropage-logged}
+use Rattle.kernel_laws.proofs.LogRuns.{AreAll, Goes, Writes, accessed-logged, by-result, protect-logged, stays, wake-logged, writes-calls, zeropage-logged}
+use Rattle.kernel_laws.proofs.GuestCalls.{command-next}
+use Rattle.kernel_laws.proofs.Clearing.{by-dontneed, dropped_space}
+use Rattle.kernel_laws.proofs.DiscardRuns.{Discard, pending_for}
+use Rattle.kernel_laws.proofs.Moves.{IsOther, Kept, held-changing, held-next, idle, kept-by, makes, reads, tries, wrote-next}
+use Rattle.kernel_laws.proofs.States.{Ends, Free, Held, Next, State, counterpart, ends-at, every-ends, free, held, log_begun, logged-from, next-ends, run_world}
+use Rattle.kernel_laws.proofs.Unmaps.{some-below}
 use Rattle.kernel_laws.proofs.MapReplies.{by-reply, called_as}
-use Rattle.kernel_laws.proofs.MapRuns.{by-mmap, by-refusal, command-writes, has_events_in, message-logged, no-map-call}
+use Rattle.kernel_laws.proofs.MapRuns.{by-mmap, by-refusal, has_events_in, message-logged, no-map-call}
 use Rattle.kernel_laws.proofs.OpenCalls.{AreBelow, HasCalls, Pending, open_of}
-use Rattle.kernel_laws.proofs.Unnamed.{accessed-unnamed, may-unnamed, next-unnamed, no-names, protect-unnamed, read-unnamed, turn-unnamed, unnamed_guest, wake-unnamed, zeropage-unnamed}
+use Rattle.kernel_laws.proofs.Unnamed.{accessed-unnamed, may-unnamed, next-unnamed, no-names, protect-unnamed, read-unnamed, sound-unnamed, turn-unnamed, unnamed_guest, wake-unnamed, zeropage-unnamed}
 
 -- The state of a source that is not released, and a kernel whose object agrees, with map calls under way
 pub record At : Type 0 where
@@ -323,35 +336,59 @@ called-unnamed space cpu (Command.Munmap addr len) access followed =
     (ap (λ o. record (called_as space cpu (Command.Munmap addr len) Reply.Done) { object = o })
     (queued-unnamed (unregistered space.object (addr / 4096) (pages_of len)) (is_watched space.object (addr / 4096) (pages_of len)) (Message.Unmap addr (addr + rounded len)) cpu))) refl
 called-unnamed space cpu (Command.Mremap addr old_len new_len may_move fixed) access followed = absurd (false≢true followed)
-called-unnamed space cpu (Command.DontNeed addr len) access followed = absurd (false≢true followed)
+called-unnamed space cpu (Command.DontNeed addr len) access followed =
+    let there = memory space.host in
+    by-dontneed (λ reply. dontneed_reply there addr len ≡ reply → called (unnamed space) cpu (Command.DontNeed addr len) ≡ unnamed (called space cpu (Command.DontNeed addr len)))
+    (is_page_start addr) (eqb len 0) (leb (2 ^ 64) (addr + rounded len)) (not (is_all_mapped there addr (rounded len)))
+    (λ is. as-unnamed space cpu (Command.DontNeed addr len) (Reply.Refused Errno.Einval) is refl)
+    (λ is. removed Reply.Done (addr + rounded len) is refl refl)
+    (λ is. removed (Reply.Refused Errno.Enomem) (lesser (addr + rounded len) HIGH) is refl refl) refl
+  where
+    command : Command
+    command = Command.DontNeed addr len
+
+    w : Bool
+    w = is_watched space.object (addr / 4096) (pages_of len)
+
+    removed : (reply : Reply) (stop : ℕ) → dontneed_reply (memory space.host) addr len ≡ reply → called_as (unnamed space) cpu command reply ≡ dropped_space (unnamed space) (addr / 4096) (pages_of len) addr stop cpu w →
+        dropped_space space (addr / 4096) (pages_of len) addr stop cpu w ≡ called_as space cpu command reply → called (unnamed space) cpu command ≡ unnamed (called space cpu command)
+    removed reply stop is now before =
+        as-unnamed space cpu command reply is
+        (now ∙ ap (λ o. record (dropped_space (unnamed space) (addr / 4096) (pages_of len) addr stop cpu w) { object = o }) (queued-unnamed space.object w (Message.Remove addr stop) cpu) ∙ ap unnamed before)
 
 asked-events : has_events_in unnamed_features ≡ true
 unfolding is_one
 asked-events = refl
 
 -- by whether it is an access
-command-by : (at : At) (key cpu : ℕ) (command : Command) (access : Bool) → AreBelow key at.calls → is_access command ≡ access → is_followed command ≡ true →
-    Writes at.calls at.one (issue_written at.one.object.space key (map open_of at.calls) (unnamed at.world.source.guest.space) command (map_call command)) (unnamed (space_by (is_access command) at.world.source.guest.space cpu command))
-command-by at key cpu command false below access followed =
+command-by : {name home key : ℕ} (at : At) (its : Free name home key (unnamed at.world.source.guest.space) at.calls at.one) (cpu : ℕ) (command : Command) (access : Bool) → is_access command ≡ access → is_followed command ≡ true →
+    Next name home (under_way at.one.kernel (map open_of at.calls)) at.one (issue_written home key (map open_of at.calls) (unnamed at.world.source.guest.space) command (map_call command)) (unnamed (space_by (is_access command) at.world.source.guest.space cpu command))
+command-by {name = name} {home = home} {key = key} at its cpu command false access followed =
     let space = at.world.source.guest.space in
-    let written = λ (s : Space). issue_written at.one.object.space key (map open_of at.calls) s command (map_call command) in
-    subst (λ b. Writes at.calls at.one (written (unnamed space)) (unnamed (space_by b space cpu command))) (sym access)
-    (subst (Writes at.calls at.one (written (unnamed space))) (called-unnamed space cpu command access followed)
-    (subst (λ s. Writes at.calls at.one (written s) (called s cpu command)) at.same
-    (command-writes at.one key cpu command below at.told (ap (λ (s : Space). s.object.enabled) at.same ∙ (opened at).enabled) (ap (λ (s : Space). has_events_in s.object.features) at.same ∙ asked-events)
-    (subst (λ (s : Space). IsMapping s.host.areas) (sym at.same) (memory_bounded at.world at.reached).source) access followed)))
-command-by at key cpu command true below access followed =
+    let start = under_way at.one.kernel (map open_of at.calls) in
+    let written = λ (n : ℕ) (s : Space). issue_written n key (map open_of at.calls) s command (map_call command) in
+    subst (λ b. Next name home start at.one (written home (unnamed space)) (unnamed (space_by b space cpu command))) (sym access)
+    (subst (Next name home start at.one (written home (unnamed space))) (called-unnamed space cpu command access followed)
+    (subst (λ n. Next name home start at.one (written n (unnamed space)) (called (unnamed space) cpu command)) (sym its.there)
+    (subst (λ s. Next name home start at.one (written at.one.object.space s) (called s cpu command)) at.same
+    (command-next (record { same = refl; told = its.told; below = its.below; own = its.own; there = its.there }) cpu command (ap (λ (s : Space). s.object.enabled) at.same ∙ (opened at).enabled)
+    (ap (λ (s : Space). has_events_in s.object.features) at.same ∙ asked-events) (subst (λ (s : Space). IsMapping s.host.areas) (sym at.same) (memory_bounded at.world at.reached).source) access followed))))
+command-by {home = home} {key = key} at its cpu command true access followed =
     let space = at.world.source.guest.space in
-    subst (λ o. Writes at.calls at.one (issue_written at.one.object.space key (map open_of at.calls) (unnamed space) command o) (unnamed (space_by (is_access command) space cpu command))) (sym (no-map-call command access))
-    (writes-calls at.one key [] (unnamed (space_by (is_access command) space cpu command)) below
-    (subst (Goes at.calls at.calls at.one []) (accessed-unnamed space cpu command ∙ ap (λ b. unnamed (space_by b space cpu command)) (sym access)) (tried-logged at cpu command false access)))
+    let new = unnamed (space_by (is_access command) space cpu command) in
+    wrote-next (issue_written home key (map open_of at.calls) (unnamed space) command (map_call command)) new its
+    (subst (λ o. Writes at.calls at.one (issue_written home key (map open_of at.calls) (unnamed space) command o) new) (sym (no-map-call command access))
+    (writes-calls at.one key [] new its.below
+    (subst (Goes at.calls at.calls at.one []) (accessed-unnamed space cpu command ∙ ap (λ b. unnamed (space_by b space cpu command)) (sym access)) (tried-logged at cpu command false access))))
 
 -- where the guest runs
-issue-writes : (at : At) (key cpu : ℕ) (command : Command) (ran : Bool) → AreBelow key at.calls → is_followed command ≡ true →
-    Writes at.calls at.one (cond ran (calls_written key (map open_of at.calls) []) (issue_written at.one.object.space key (map open_of at.calls) (unnamed at.world.source.guest.space) command (map_call command)))
+issue-by : {name home key : ℕ} (at : At) (its : Free name home key (unnamed at.world.source.guest.space) at.calls at.one) (cpu : ℕ) (command : Command) (ran : Bool) → is_followed command ≡ true →
+    Next name home (under_way at.one.kernel (map open_of at.calls)) at.one (cond ran (calls_written key (map open_of at.calls) []) (issue_written home key (map open_of at.calls) (unnamed at.world.source.guest.space) command (map_call command)))
     (unnamed (with_guest_by ran at.world (tried (is_access command) (guest_by ran at.world.source.guest at.world.destination.guest) cpu command)).source.guest.space)
-issue-writes at key cpu command true below followed = writes-calls at.one key [] (unnamed at.world.source.guest.space) below (stays at.one (unnamed at.world.source.guest.space) at.same at.told)
-issue-writes at key cpu command false below followed = command-by at key cpu command (is_access command) below refl followed
+issue-by {key = key} at its cpu command true followed =
+    let space = unnamed at.world.source.guest.space in
+    wrote-next (calls_written key (map open_of at.calls) []) space its (writes-calls at.one key [] space its.below (stays at.one space at.same at.told))
+issue-by at its cpu command false followed = command-by at its cpu command (is_access command) refl followed
 
 -- Every step
 
@@ -364,84 +401,74 @@ by-outcome at key step written (Err refusal) below none is made =
     subst (λ w. Writes at.calls at.one w space) (sym (none refusal))
     (writes-calls at.one key [] space below (stays at.one space (at.same ∙ sym (ap (λ (w : World). unnamed w.source.guest.space) (next-refused at.world step refusal is))) at.told))
 
-step-writes : (at : At) (key : ℕ) (step : Step) → AreBelow key at.calls → is_released (next at.world step).source.phase ≡ false → IsFollowed step →
-    Writes at.calls at.one (source_writes at.by at.one.object.space key (map open_of at.calls) at.world step (outcome at.world step)) (unnamed (next at.world step).source.guest.space)
-step-writes at key (Step.Issue cpu command) below unreleased followed =
-    by-outcome at key (Step.Issue cpu command) (source_writes at.by at.one.object.space key (map open_of at.calls) at.world (Step.Issue cpu command)) (outcome at.world (Step.Issue cpu command)) below (λ refusal. refl) refl
-    (λ effect is.
-    made-effect (λ effect new.
-    Writes at.calls at.one (cond at.world.destination.has_run (calls_written key (map open_of at.calls) []) (issue_written at.one.object.space key (map open_of at.calls) (unnamed at.world.source.guest.space) command (map_call command))) (unnamed new.source.guest.space))
-    at.world (Step.Issue cpu command) effect (λ there idle runs. issue-writes at key cpu command at.world.destination.has_run below followed) is)
-step-writes at key Step.SourceRead below unreleased followed =
-    by-outcome at key Step.SourceRead (source_writes at.by at.one.object.space key (map open_of at.calls) at.world Step.SourceRead) (outcome at.world Step.SourceRead) below (λ refusal. refl) refl (λ effect is. source-read-writes at key effect below is)
-step-writes at key (Step.Retry cpu) below unreleased followed =
+-- the guest of the source has no part in a step
+abbrev IsPassive : Step → Type 0
+IsPassive (Step.Issue cpu command) = ⊥
+IsPassive (Step.Retry cpu) = ⊥
+IsPassive Step.Start = ⊥
+IsPassive Step.Round = ⊥
+IsPassive Step.Send = ⊥
+IsPassive (Step.SendRun count) = ⊥
+IsPassive Step.SourceRead = ⊥
+IsPassive Step.SourceAct = ⊥
+IsPassive Step.Switch = ⊥
+IsPassive step = Unit {0}
+
+-- a frame that comes back does not release the source
+abbrev Keeps : World → Step → Type 0
+Keeps world (Step.DeliverBack n) = is_released (next world (Step.DeliverBack n)).source.phase ≡ false
+Keeps world step = Unit {0}
+
+passive : (world : World) (step : Step) → IsPassive step → Keeps world step → (next world step).source.guest ≡ world.source.guest
+passive world (Step.DeliverBack n) is unreleased = delivered-guest world n unreleased
+passive world (Step.Push ticket) is unreleased = made-next (λ new. new.source.guest ≡ world.source.guest) world (Step.Push ticket) refl (λ stopped up own present remains. refl)
+passive world (Step.PushUrgent ticket) is unreleased = made-next (λ new. new.source.guest ≡ world.source.guest) world (Step.PushUrgent ticket) refl (λ stopped up own present remains. refl)
+passive world Step.Serve is unreleased = made-next (λ new. new.source.guest ≡ world.source.guest) world Step.Serve refl (λ page pages first stopped up. refl)
+passive world Step.End is unreleased = made-next (λ new. new.source.guest ≡ world.source.guest) world Step.End refl (λ stopped other up none. refl)
+passive world (Step.Notice Side.Source) is unreleased = ap (λ (w : World). w.source.guest) (changes_parts world (Step.Notice Side.Source)).is
+passive world (Step.Notice Side.Destination) is unreleased = ap (λ (w : World). w.source.guest) (changes_parts world (Step.Notice Side.Destination)).is
+passive world Step.Resume is unreleased = ap (λ (node : Source). node.guest) (changes_parts world Step.Resume).source
+passive world (Step.Deliver n) is unreleased = ap (λ (node : Source). node.guest) (changes_parts world (Step.Deliver n)).source
+passive world Step.DestRead is unreleased = ap (λ (node : Source). node.guest) (changes_parts world Step.DestRead).source
+passive world Step.DestAct is unreleased = ap (λ (node : Source). node.guest) (changes_parts world Step.DestAct).source
+passive world Step.Install is unreleased = ap (λ (node : Source). node.guest) (changes_parts world Step.Install).source
+passive world (Step.DeliverUrgent n) is unreleased = ap (λ (node : Source). node.guest) (changes_parts world (Step.DeliverUrgent n)).source
+passive world Step.Break is unreleased = ap (λ (node : Source). node.guest) (changes_parts world Step.Break).source
+passive world step is unreleased = absurd is
+
+step-writes : (at : At) (home key : ℕ) (step : Step) → AreBelow key at.calls → Keeps at.world step → IsOther step →
+    Writes at.calls at.one (source_writes at.by home key (map open_of at.calls) at.world step (outcome at.world step)) (unnamed (next at.world step).source.guest.space)
+step-writes at home key (Step.Issue cpu command) below unreleased other = absurd other
+step-writes at home key Step.SourceRead below unreleased other =
+    by-outcome at key Step.SourceRead (source_writes at.by home key (map open_of at.calls) at.world Step.SourceRead) (outcome at.world Step.SourceRead) below (λ refusal. refl) refl (λ effect is. source-read-writes at key effect below is)
+step-writes at home key (Step.Retry cpu) below unreleased other =
     writes-calls at.one key (source_calls at.by at.world (Step.Retry cpu) (outcome at.world (Step.Retry cpu))) (unnamed (next at.world (Step.Retry cpu)).source.guest.space) below
     (made-next (λ new. Goes at.calls at.calls at.one [] (unnamed new.source.guest.space)) at.world (Step.Retry cpu) (stays at.one (unnamed at.world.source.guest.space) at.same at.told)
     (λ command waits woken runs. command-logged at cpu command (retried-access at.world.destination.has_run at.world cpu command at.reached waits)))
-step-writes at key Step.Start below unreleased followed =
+step-writes at home key Step.Start below unreleased other =
     writes-calls at.one key (source_calls at.by at.world Step.Start (outcome at.world Step.Start)) (unnamed (next at.world Step.Start).source.guest.space) below
     (by-result (source at.by at.one.object.space) at.world Step.Start at.one (λ effect. register_calls at.by.on 3 at.by.calls (at.by.runs at.world.source.guest.space.host.areas)) key (outcome at.world Step.Start) at.same at.told refl
     (λ effect is. areas-logged at key (next at.world Step.Start).source.guest.space below
     (start_registers at.reached.cpus at.world (at.by.runs at.world.source.guest.space.host.areas) (bounded-reached at.world at.reached) (accepted at.world Step.Start effect is) (at.by.are at.world.source.guest.space.host.areas (bounded-reached at.world at.reached).mapped))))
-step-writes at key Step.Round below unreleased followed =
+step-writes at home key Step.Round below unreleased other =
     writes-calls at.one key (source_calls at.by at.world Step.Round (outcome at.world Step.Round)) (unnamed (next at.world Step.Round).source.guest.space) below
     (by-result (source at.by at.one.object.space) at.world Step.Round at.one (λ effect. register_calls at.by.on 3 at.by.calls (at.by.runs at.world.source.guest.space.host.areas)) key (outcome at.world Step.Round) at.same at.told refl
     (λ effect is. areas-logged at key (next at.world Step.Round).source.guest.space below
     (round_registers at.reached.cpus at.world (at.by.runs at.world.source.guest.space.host.areas) (bounded-reached at.world at.reached) (accepted at.world Step.Round effect is) (at.by.are at.world.source.guest.space.host.areas (bounded-reached at.world at.reached).mapped))))
-step-writes at key Step.Send below unreleased followed =
+step-writes at home key Step.Send below unreleased other =
     writes-calls at.one key (source_calls at.by at.world Step.Send (outcome at.world Step.Send)) (unnamed (next at.world Step.Send).source.guest.space) below
     (by-result (source at.by at.one.object.space) at.world Step.Send at.one (protect_call at.by.on) key (outcome at.world Step.Send) at.same at.told refl (λ effect is. send-logged at key effect below is))
-step-writes at key (Step.SendRun count) below unreleased followed =
+step-writes at home key (Step.SendRun count) below unreleased other =
     writes-calls at.one key (source_calls at.by at.world (Step.SendRun count) (outcome at.world (Step.SendRun count))) (unnamed (next at.world (Step.SendRun count)).source.guest.space) below
     (by-result (source at.by at.one.object.space) at.world (Step.SendRun count) at.one (protect_call at.by.on) key (outcome at.world (Step.SendRun count)) at.same at.told refl (λ effect is. run-logged at count key effect below is))
-step-writes at key Step.SourceAct below unreleased followed =
+step-writes at home key Step.SourceAct below unreleased other =
     writes-calls at.one key (source_calls at.by at.world Step.SourceAct (outcome at.world Step.SourceAct)) (unnamed (next at.world Step.SourceAct).source.guest.space) below
     (by-result (source at.by at.one.object.space) at.world Step.SourceAct at.one (resolve_call at.by.on) key (outcome at.world Step.SourceAct) at.same at.told refl (λ effect is. resolve-logged at key effect below is))
-step-writes at key Step.Switch below unreleased followed =
+step-writes at home key Step.Switch below unreleased other =
     writes-calls at.one key (source_calls at.by at.world Step.Switch (outcome at.world Step.Switch)) (unnamed (next at.world Step.Switch).source.guest.space) below
     (switch-logged at)
-step-writes at key (Step.DeliverBack n) below unreleased followed =
-    writes-calls at.one key (source_calls at.by at.world (Step.DeliverBack n) (outcome at.world (Step.DeliverBack n))) (unnamed (next at.world (Step.DeliverBack n)).source.guest.space) below
-    (unchanged at (Step.DeliverBack n) (delivered-guest at.world n unreleased))
-step-writes at key (Step.Push ticket) below unreleased followed =
-    writes-calls at.one key (source_calls at.by at.world (Step.Push ticket) (outcome at.world (Step.Push ticket))) (unnamed (next at.world (Step.Push ticket)).source.guest.space) below
-    (unchanged at (Step.Push ticket) (made-next (λ new. new.source.guest ≡ at.world.source.guest) at.world (Step.Push ticket) refl (λ stopped up own present remains. refl)))
-step-writes at key (Step.PushUrgent ticket) below unreleased followed =
-    writes-calls at.one key (source_calls at.by at.world (Step.PushUrgent ticket) (outcome at.world (Step.PushUrgent ticket))) (unnamed (next at.world (Step.PushUrgent ticket)).source.guest.space) below
-    (unchanged at (Step.PushUrgent ticket) (made-next (λ new. new.source.guest ≡ at.world.source.guest) at.world (Step.PushUrgent ticket) refl (λ stopped up own present remains. refl)))
-step-writes at key Step.Serve below unreleased followed =
-    writes-calls at.one key (source_calls at.by at.world Step.Serve (outcome at.world Step.Serve)) (unnamed (next at.world Step.Serve).source.guest.space) below
-    (unchanged at Step.Serve (made-next (λ new. new.source.guest ≡ at.world.source.guest) at.world Step.Serve refl (λ page pages first stopped up. refl)))
-step-writes at key Step.End below unreleased followed =
-    writes-calls at.one key (source_calls at.by at.world Step.End (outcome at.world Step.End)) (unnamed (next at.world Step.End).source.guest.space) below
-    (unchanged at Step.End (made-next (λ new. new.source.guest ≡ at.world.source.guest) at.world Step.End refl (λ stopped other up none. refl)))
-step-writes at key (Step.Notice Side.Source) below unreleased followed =
-    writes-calls at.one key (source_calls at.by at.world (Step.Notice Side.Source) (outcome at.world (Step.Notice Side.Source))) (unnamed (next at.world (Step.Notice Side.Source)).source.guest.space) below
-    (unchanged at (Step.Notice Side.Source) (ap (λ (w : World). w.source.guest) (changes_parts at.world (Step.Notice Side.Source)).is))
-step-writes at key (Step.Notice Side.Destination) below unreleased followed =
-    writes-calls at.one key (source_calls at.by at.world (Step.Notice Side.Destination) (outcome at.world (Step.Notice Side.Destination))) (unnamed (next at.world (Step.Notice Side.Destination)).source.guest.space) below
-    (unchanged at (Step.Notice Side.Destination) (ap (λ (w : World). w.source.guest) (changes_parts at.world (Step.Notice Side.Destination)).is))
-step-writes at key Step.Resume below unreleased followed =
-    writes-calls at.one key (source_calls at.by at.world Step.Resume (outcome at.world Step.Resume)) (unnamed (next at.world Step.Resume).source.guest.space) below
-    (unchanged at Step.Resume (ap (λ (node : Source). node.guest) (changes_parts at.world Step.Resume).source))
-step-writes at key (Step.Deliver n) below unreleased followed =
-    writes-calls at.one key (source_calls at.by at.world (Step.Deliver n) (outcome at.world (Step.Deliver n))) (unnamed (next at.world (Step.Deliver n)).source.guest.space) below
-    (node-unchanged at (Step.Deliver n) (changes_parts at.world (Step.Deliver n)).source)
-step-writes at key Step.DestRead below unreleased followed =
-    writes-calls at.one key (source_calls at.by at.world Step.DestRead (outcome at.world Step.DestRead)) (unnamed (next at.world Step.DestRead).source.guest.space) below
-    (node-unchanged at Step.DestRead (changes_parts at.world Step.DestRead).source)
-step-writes at key Step.DestAct below unreleased followed =
-    writes-calls at.one key (source_calls at.by at.world Step.DestAct (outcome at.world Step.DestAct)) (unnamed (next at.world Step.DestAct).source.guest.space) below
-    (node-unchanged at Step.DestAct (changes_parts at.world Step.DestAct).source)
-step-writes at key Step.Install below unreleased followed =
-    writes-calls at.one key (source_calls at.by at.world Step.Install (outcome at.world Step.Install)) (unnamed (next at.world Step.Install).source.guest.space) below
-    (node-unchanged at Step.Install (changes_parts at.world Step.Install).source)
-step-writes at key (Step.DeliverUrgent n) below unreleased followed =
-    writes-calls at.one key (source_calls at.by at.world (Step.DeliverUrgent n) (outcome at.world (Step.DeliverUrgent n))) (unnamed (next at.world (Step.DeliverUrgent n)).source.guest.space) below
-    (node-unchanged at (Step.DeliverUrgent n) (changes_parts at.world (Step.DeliverUrgent n)).source)
-step-writes at key Step.Break below unreleased followed =
-    writes-calls at.one key (source_calls at.by at.world Step.Break (outcome at.world Step.Break)) (unnamed (next at.world Step.Break).source.guest.space) below
-    (node-unchanged at Step.Break (changes_parts at.world Step.Break).source)
+step-writes at home key step below unreleased other =
+    writes-calls at.one key (source_calls at.by at.world step (outcome at.world step)) (unnamed (next at.world step).source.guest.space) below (unchanged at step (passive at.world step tt unreleased))
 
 -- Every list of steps
 
@@ -461,19 +488,280 @@ all-kept : (world : World) (steps : List Step) → IsReached world → IsUnrelea
 all-kept world [] reached kept = (reached, kept)
 all-kept world (step ∷ steps) reached kept = ((reached, unreleased-first world (step ∷ steps) reached kept), all-kept (next world step) steps (reached-next world step reached) kept)
 
-pub source-written : (at : At) (home key : ℕ) (steps : List Step) → AreFollowed steps → IsUnreleased at.world steps → AreBelow key at.calls → home ≡ at.one.object.space →
-    Writes at.calls at.one (log_of (source at.by home) key (map open_of at.calls) at.world steps) (space_after (source at.by home) at.world steps)
-source-written at home key steps followed kept below there =
-    every-logged (source at.by home) at.by.on.object home IsKept IsFollowed (λ calls. Unit {0})
-    (λ world before one number step it then is quiet low same told own home_is. (
-      subst (λ n. Writes before one (source_writes at.by n number (map open_of before) world step (outcome world step)) (unnamed (next world step).source.guest.space)) (sym home_is)
-          (step-writes (record { world = world; reached = it.0; unreleased = it.1; by = at.by; calls = before; one = one; same = same; told = told; own = own }) number step low then.1 is),
-      tt,
-    ))
-    at.world at.calls at.one key steps (all-kept at.world steps at.reached kept) (each-followed steps followed) tt below at.same at.told at.own there
+-- a step while no MADV_DONTNEED is under way
+free-next : {name home key : ℕ} (at : At) (its : Free name home key (unnamed at.world.source.guest.space) at.calls at.one) (step : Step) → Keeps at.world step → IsFollowed (unnamed at.world.source.guest.space) (map open_of at.calls) at.world step →
+    Next name home (under_way at.one.kernel (map open_of at.calls)) at.one (source_writes at.by home key (map open_of at.calls) at.world step (outcome at.world step)) (unnamed (next at.world step).source.guest.space)
+free-next {name = name} {home = home} {key = key} at its (Step.Issue cpu command) unreleased followed = by (outcome at.world step) refl where
+  step : Step
+  step = Step.Issue cpu command
 
-pub source-logged : (at : Watching) (key : ℕ) (steps : List Step) → AreFollowed steps → IsUnreleased at.world steps → AreLogged (source at.by at.one.object.space) at.one key at.world steps
+  by : (result : Result Effect Refusal) → outcome at.world step ≡ result →
+      Next name home (under_way at.one.kernel (map open_of at.calls)) at.one (source_writes at.by home key (map open_of at.calls) at.world step result) (unnamed (next at.world step).source.guest.space)
+  by (Ok effect) is =
+      made-effect (λ effect new. Next name home (under_way at.one.kernel (map open_of at.calls)) at.one (source_writes at.by home key (map open_of at.calls) at.world step (Ok effect)) (unnamed new.source.guest.space)) at.world step effect
+      (λ there ready runs. issue-by at its cpu command at.world.destination.has_run (and_first (is_followed command) (keeps_off_all (unnamed at.world.source.guest.space) command (map open_of at.calls)) followed)) is
+  by (Err refusal) is =
+      let space = unnamed (next at.world step).source.guest.space in
+      wrote-next (calls_written key (map open_of at.calls) []) space its
+      (writes-calls at.one key [] space its.below (stays at.one space (at.same ∙ sym (ap (λ (w : World). unnamed w.source.guest.space) (next-refused at.world step refusal is))) at.told))
+free-next {home = home} {key = key} at its step unreleased followed = wrote-next _ _ its (step-writes at home key step its.below unreleased tt)
+
+-- One is under way
+
+abbrev space_of : World → Space
+space_of world = unnamed world.source.guest.space
+
+-- a step that is refused while an event is unread
+refused-kept : {on : Descriptor} {home key : ℕ} {begun : List Open} (world : World) (step : Step) (calls : Result Effect Refusal → List Ended) → ((refusal : Refusal) → calls (Err refusal) ≡ []) → ((effect : Effect) → outcome world step ≡ Ok effect → ⊥) →
+    Kept on home key begun (calls_written key begun (calls (outcome world step))) (unnamed world.source.guest.space) (unnamed (next world step).source.guest.space)
+refused-kept {key = key} {begun = begun} world step calls none refused =
+    kept-by space_of world step (λ result. calls_written key begun (calls result)) (outcome world step) (λ refusal. ap (calls_written key begun) (none refusal)) refl (λ effect is. absurd (refused effect is))
+
+-- a processor's access, where the guest runs
+tried-kept : {on : Descriptor} {home key : ℕ} {begun : List Open} (world : World) (cpu : ℕ) (command : Command) (ran : Bool) (written : Written) → IsReached world → is_access command ≡ true → keeps_off_all (space_of world) command begun ≡ true →
+    written ≡ calls_written key begun [] → Kept on home key begun written (space_of world) (unnamed (with_guest_by ran world (tried (is_access command) (guest_by ran world.source.guest world.destination.guest) cpu command)).source.guest.space)
+tried-kept world cpu command true written reached access off is = idle is refl
+tried-kept world cpu command false written reached access off is =
+    let spaces = (bounded-reached world reached).ready.kept.spaces in
+    tries cpu command access off is (tried-space false world cpu command access) no-names (λ protect. spaces.both_modes (page_of command) ∙ protect)
+
+-- a command, by whether it is an access
+issued-kept : {on : Descriptor} {home key : ℕ} {begun : List Open} (world : World) (cpu : ℕ) (command : Command) (ran access : Bool) → IsReached world → is_access command ≡ access → is_followed command ≡ true → keeps_off_all (space_of world) command begun ≡ true →
+    Kept on home key begun (cond ran (calls_written key begun []) (issue_written home key begun (space_of world) command (map_call command))) (space_of world)
+    (unnamed (with_guest_by ran world (tried (is_access command) (guest_by ran world.source.guest world.destination.guest) cpu command)).source.guest.space)
+issued-kept world cpu command true access reached is followed off = idle refl refl
+issued-kept {home = home} {key = key} {begun = begun} world cpu command false true reached is followed off =
+    tried-kept world cpu command false _ reached is off (ap (issue_written home key begun (space_of world) command) (no-map-call command is))
+issued-kept world cpu command false false reached is followed off =
+    makes cpu command is followed off refl (ap (λ b. unnamed (space_by b world.source.guest.space cpu command)) is ∙ sym (called-unnamed world.source.guest.space cpu command is followed)) (memory_bounded world reached).source
+
+source-kept : (by : Watch) (home key : ℕ) (begun : List Open) (world : World) (step : Step) → IsReached world → Keeps world step → is_changing world.source.guest ≡ true → is_source_idle world.source.phase ≡ false →
+    IsFollowed (space_of world) begun world step → Kept by.on home key begun (source_writes by home key begun world step (outcome world step)) (space_of world) (space_of (next world step))
+source-kept by home key begun world (Step.Issue cpu command) reached unreleased changing busy followed =
+    kept-by space_of world (Step.Issue cpu command) (source_writes by home key begun world (Step.Issue cpu command)) (outcome world (Step.Issue cpu command)) (λ refusal. refl) refl
+    (λ effect is.
+    made-effect (λ effect new. Kept by.on home key begun (source_writes by home key begun world (Step.Issue cpu command) (Ok effect)) (space_of world) (space_of new)) world (Step.Issue cpu command) effect
+    (λ there ready runs.
+    issued-kept world cpu command world.destination.has_run (is_access command) reached refl (and_first (is_followed command) (keeps_off_all (space_of world) command begun) followed)
+    (and_second (is_followed command) (keeps_off_all (space_of world) command begun) followed)) is)
+source-kept by home key begun world (Step.Retry cpu) reached unreleased changing busy followed =
+    made-next (λ new. Kept by.on home key begun (calls_written key begun []) (space_of world) (space_of new)) world (Step.Retry cpu) (idle refl refl)
+    (λ command waits woken runs. tried-kept world cpu command world.destination.has_run (calls_written key begun []) reached (retried-access world.destination.has_run world cpu command reached waits) (followed command waits) refl)
+source-kept by home key begun world Step.SourceRead reached unreleased changing busy followed =
+    kept-by space_of world Step.SourceRead (source_writes by home key begun world Step.SourceRead) (outcome world Step.SourceRead) (λ refusal. refl) refl
+    (λ effect is.
+    let space = world.source.guest.space in
+    let it = is-read world effect is in
+    let first = next-unnamed space.object it.0 it.1 in
+    reads first.0 first.1 (ap (read_written by.on key begun) first.1) (ap unnamed it.2 ∙ sym (ap (λ o. record (unnamed space) { object = o }) (read-unnamed space.object))))
+source-kept by home key begun world Step.Start reached unreleased changing busy followed =
+    refused-kept world Step.Start (source_calls by world Step.Start) (λ refusal. refl)
+    (λ effect is. made-effect (λ effect new. ⊥) world Step.Start effect (λ unbegun fits. false≢true (sym busy ∙ unbegun)) is)
+source-kept by home key begun world Step.Round reached unreleased changing busy followed =
+    refused-kept world Step.Round (source_calls by world Step.Round) (λ refusal. refl) (λ effect is. made-effect (λ effect new. ⊥) world Step.Round effect (λ precopy quiet. false≢true (sym quiet ∙ changing)) is)
+source-kept by home key begun world Step.Send reached unreleased changing busy followed =
+    refused-kept world Step.Send (source_calls by world Step.Send) (λ refusal. refl) (λ effect is. made-effect (λ effect new. ⊥) world Step.Send effect (λ page least precopy up quiet. false≢true (sym quiet ∙ changing)) is)
+source-kept by home key begun world (Step.SendRun count) reached unreleased changing busy followed =
+    refused-kept world (Step.SendRun count) (source_calls by world (Step.SendRun count)) (λ refusal. refl)
+    (λ effect is. made-effect (λ effect new. ⊥) world (Step.SendRun count) effect (λ first number least many precopy up quiet. false≢true (sym quiet ∙ changing)) is)
+source-kept by home key begun world Step.SourceAct reached unreleased changing busy followed =
+    refused-kept world Step.SourceAct (source_calls by world Step.SourceAct) (λ refusal. refl)
+    (λ effect is. made-effect (λ effect new. ⊥) world Step.SourceAct effect (λ fault rest first started unswitched quiet. false≢true (sym quiet ∙ changing)) is)
+source-kept by home key begun world Step.Switch reached unreleased changing busy followed =
+    refused-kept world Step.Switch (source_calls by world Step.Switch) (λ refusal. refl) (λ effect is. made-effect (λ effect new. ⊥) world Step.Switch effect (λ precopy up quiet. false≢true (sym quiet ∙ changing)) is)
+source-kept by home key begun world step reached unreleased changing busy followed = idle refl (ap (λ (guest : Guest). unnamed guest.space) (sym (passive world step tt unreleased)))
+
+-- Each state
+
+-- no page is registered
+abbrev pub IsBare : ModelObject → Type 0
+IsBare object = (page : ℕ) → (contains object.missing page ≡ false) × (contains object.protect page ≡ false)
+
+pub is-idle : (phase : SourcePhase) → is_source_idle phase ≡ true → phase ≡ SourcePhase.Idle
+is-idle phase h = grind (arith, nat_tests)
+
+pub bare-idle : (world : World) → IsSoundWorld world → is_source_idle world.source.phase ≡ true → IsBare world.source.guest.space.object
+bare-idle world kept unbegun page =
+    let missing = (kept.precopy.idle_source (is-idle world.source.phase unbegun)).4 page in
+    (missing, sym (kept.spaces.both_modes page) ∙ missing)
+
+-- pages are registered once a migration has begun
+held-busy : {name home key : ℕ} (world : World) {calls : List Pending} {one : Counterparts} {it : Discard} → IsReached world → Held name home key (unnamed world.source.guest.space) it calls one → is_source_idle world.source.phase ≡ false
+held-busy world {one = one} {it = it} reached at = by (is_source_idle world.source.phase) refl where
+  none : is_source_idle world.source.phase ≡ true → (page : ℕ) → is_registered one.space.object page ≡ false
+  none unbegun page =
+      let bare = bare-idle world (bounded-reached world reached).ready.kept unbegun in
+      ap (λ (s : Space). is_registered s.object page) at.same ∙ (λ i. (bare page).0 i || (bare page).1 i)
+
+  by : (b : Bool) → is_source_idle world.source.phase ≡ b → b ≡ false
+  by false is = refl
+  by true is =
+      let found = some-below (λ i. is_registered one.space.object (it.addr / 4096 + i)) (pages_of it.len) at.watched in
+      absurd (false≢true (sym (none is (it.addr / 4096 + found.0)) ∙ found.2))
+
+state-next : (by : Watch) (home : ℕ) (world : World) (key : ℕ) (state : State by.on.object home key (unnamed world.source.guest.space)) (step : Step) → IsKept world → Keeps world step → IsFollowed (unnamed world.source.guest.space) (log_begun state) world step →
+    Next by.on.object home (run_world state) (counterpart state) (source_writes by home key (log_begun state) world step (outcome world step)) (unnamed (next world step).source.guest.space)
+state-next by home world key (free calls one its) step it then followed =
+    free-next (record { world = world; reached = it.0; unreleased = it.1; by = by; calls = calls; one = one; same = its.same; told = its.told; own = its.own }) its step then followed
+state-next by home world key (held clearing calls one its) step it then followed =
+    held-next its by.on (source_writes by home key (log_begun (held clearing calls one its)) world step (outcome world step)) (unnamed (next world step).source.guest.space) refl
+    (sound-unnamed world.source.guest.space (bounded-reached world it.0).ready.kept.spaces.source_space)
+    (source-kept by home key (map open_of calls ++ open_of (pending_for clearing) ∷ []) world step it.0 then (held-changing its) (held-busy world it.0 its) followed)
+
+-- until it is released it keeps its memory
+keeps : (world : World) (step : Step) → is_released (next world step).source.phase ≡ false → Keeps world step
+keeps world (Step.DeliverBack n) kept = kept
+keeps world step kept = tt
+
+pub source-logged : (at : Watching) (key : ℕ) (steps : List Step) → AreFollowed (source at.by at.one.object.space) key [] at.world steps → IsUnreleased at.world steps → AreLogged (source at.by at.one.object.space) at.one key at.world steps
 source-logged at key steps followed kept =
-    logged-from at.one _ _
-    (source-written
-    (record { world = at.world; reached = at.reached; unreleased = unreleased-first at.world steps at.reached kept; by = at.by; calls = []; one = at.one; same = at.same; told = at.quiet; own = at.own }) at.one.object.space key steps followed kept tt refl)
+    let home = at.one.object.space in
+    logged-from at.one at.by.on.object _ _ at.own
+    (every-ends (source at.by home) at.by.on.object home IsKept (λ world number state step it then follows. state-next at.by home world number state step it (keeps world step then.1) follows) at.world key
+    (free [] at.one (record { same = at.same; told = at.quiet; below = tt; own = at.own; there = refl })) steps (all-kept at.world steps at.reached kept) followed)
+
+-- After the release nothing is written
+
+is-released : (phase : SourcePhase) → is_released phase ≡ true → phase ≡ SourcePhase.Released
+is-released phase h = grind (arith, nat_tests)
+
+link-up : (up : Bool) → (up ≡ false → ⊥) → up ≡ true
+link-up true down = refl
+link-up false down = absurd (down refl)
+
+destination-ended : (source : Source) (destination : Destination) (forward back urgent : List Sent) → is_released source.phase ≡ true → Wires source destination forward back urgent → destination.phase ≡ DestPhase.Ended
+destination-ended source destination forward back urgent released wires = grind (arith, nat_tests)
+
+-- the guest has left
+released-facts : (world : World) → IsReached world → is_released world.source.phase ≡ true → (world.source.switched ≡ true) × (world.destination.has_run ≡ true)
+released-facts world reached released =
+    let kept = (bounded-reached world reached).ready.kept in
+    let phase = is-released world.source.phase released in
+    let up = link-up world.up (λ down. (kept.flight.down down).3 phase) in
+    let ended = destination-ended world.source world.destination world.forward.frames world.back.frames world.urgent.frames released (kept.flight.wires up) in (
+      subst (λ p. SwitchedAt p world.source.switched) phase kept.phases.source_phase,
+      kept.phases.ended_after_run (subst (λ p. RanAt p world.destination.has_run world.destination.ended) ended kept.phases.destination_phase),
+    )
+
+-- a step that is refused writes nothing
+refused-written : (world : World) (step : Step) (calls : Result Effect Refusal → List Ended) (key : ℕ) (begun : List Open) → ((refusal : Refusal) → calls (Err refusal) ≡ []) → ((effect : Effect) → outcome world step ≡ Ok effect → ⊥) →
+    calls_written key begun (calls (outcome world step)) ≡ calls_written key begun []
+refused-written world step calls key begun none refused = by (outcome world step) refl where
+  by : (result : Result Effect Refusal) → outcome world step ≡ result → calls_written key begun (calls result) ≡ calls_written key begun []
+  by (Ok effect) is = absurd (refused effect is)
+  by (Err refusal) is = ap (calls_written key begun) (none refusal)
+
+released-apart : (phase : SourcePhase) → is_released phase ≡ true → (is_source_idle phase ≡ false) × (is_precopy phase ≡ false)
+released-apart phase h = (grind (arith, nat_tests), grind (arith, nat_tests))
+
+nothing-written : (by : Watch) (home key : ℕ) (begun : List Open) (world : World) (step : Step) → IsReached world → is_released world.source.phase ≡ true → source_writes by home key begun world step (outcome world step) ≡ calls_written key begun []
+nothing-written by home key begun world (Step.Issue cpu command) reached released = one (outcome world (Step.Issue cpu command)) where
+  one : (result : Result Effect Refusal) → source_writes by home key begun world (Step.Issue cpu command) result ≡ calls_written key begun []
+  one (Ok effect) = ap (λ b. cond b (calls_written key begun []) (issue_written home key begun (unnamed world.source.guest.space) command (map_call command))) (released-facts world reached released).1
+  one (Err refusal) = refl
+nothing-written by home key begun world Step.SourceRead reached released = one (outcome world Step.SourceRead) refl where
+  one : (result : Result Effect Refusal) → outcome world Step.SourceRead ≡ result → source_writes by home key begun world Step.SourceRead result ≡ calls_written key begun []
+  one (Ok effect) is = absurd (made-effect (λ effect new. ⊥) world Step.SourceRead effect (λ noted next started unswitched. false≢true (sym unswitched ∙ (released-facts world reached released).0)) is)
+  one (Err refusal) is = refl
+nothing-written by home key begun world Step.Start reached released =
+    refused-written world Step.Start (source_calls by world Step.Start) key begun (λ refusal. refl)
+    (λ effect is. made-effect (λ effect new. ⊥) world Step.Start effect (λ unbegun fits. false≢true (sym (released-apart world.source.phase released).0 ∙ unbegun)) is)
+nothing-written by home key begun world Step.Round reached released =
+    refused-written world Step.Round (source_calls by world Step.Round) key begun (λ refusal. refl)
+    (λ effect is. made-effect (λ effect new. ⊥) world Step.Round effect (λ precopy quiet. false≢true (sym (released-apart world.source.phase released).1 ∙ precopy)) is)
+nothing-written by home key begun world Step.Send reached released =
+    refused-written world Step.Send (source_calls by world Step.Send) key begun (λ refusal. refl)
+    (λ effect is. made-effect (λ effect new. ⊥) world Step.Send effect (λ page least precopy up quiet. false≢true (sym (released-apart world.source.phase released).1 ∙ precopy)) is)
+nothing-written by home key begun world (Step.SendRun count) reached released =
+    refused-written world (Step.SendRun count) (source_calls by world (Step.SendRun count)) key begun (λ refusal. refl)
+    (λ effect is. made-effect (λ effect new. ⊥) world (Step.SendRun count) effect (λ first number least many precopy up quiet. false≢true (sym (released-apart world.source.phase released).1 ∙ precopy)) is)
+nothing-written by home key begun world Step.SourceAct reached released =
+    refused-written world Step.SourceAct (source_calls by world Step.SourceAct) key begun (λ refusal. refl)
+    (λ effect is. made-effect (λ effect new. ⊥) world Step.SourceAct effect (λ fault rest first started unswitched quiet. false≢true (sym unswitched ∙ (released-facts world reached released).0)) is)
+nothing-written by home key begun world step reached released = refl
+
+-- nor by all that follow
+pub nothing-follows : (by : Watch) (home key : ℕ) (begun : List Open) (world : World) (steps : List Step) → IsReached world → is_released world.source.phase ≡ true → (more : ℕ) × (log_of (source by home) key begun world steps ≡ record { lines = []; key = more; begun = begun })
+nothing-follows by home key begun world [] reached released = (key, refl)
+nothing-follows by home key begun world (step ∷ steps) reached released =
+    let new = next world step in
+    let rest = nothing-follows by home (key + 0) begun new steps (reached-next world step reached) (released-on world step reached released) in (
+      rest.0,
+      ap (λ (first : Written). then_written first (log_of (source by home) first.key first.begun new steps)) (nothing-written by home key begun world step reached released) ∙ ap (then_written (calls_written key begun [])) rest.1,
+    )
+
+-- Every list of steps, also after the release
+
+-- either the step keeps the source's memory, or it writes nothing
+keeps-or-none : (by : Watch) (home key : ℕ) (begun : List Open) (world : World) (step : Step) → Keeps world step ⊎ (source_writes by home key begun world step (outcome world step) ≡ calls_written key begun [])
+keeps-or-none by home key begun world (Step.DeliverBack n) = inr refl
+keeps-or-none by home key begun world step = inl tt
+
+-- a run to the end of a log with the same lines
+same-ends : {name : ℕ} {start : runs.World} {one : Counterparts} {space : Space} (log more : Written) → more.lines ≡ log.lines → more.begun ≡ log.begun → Ends name start one log space → Ends name start one more space
+same-ends {name = name} {start = start} {one = one} {space = space} log more lines begun ends =
+    record {
+      steps = ends.steps;
+      last = ends.last;
+      whole = ends.whole ∙ sym lines;
+      leads = subst (λ b. Leads start ends.steps (under_way ends.last.kernel b)) (sym begun) ends.leads;
+      leaves = ap (cleared ends.last.space) begun ∙ ends.leaves;
+      own = ends.own;
+      quiet = λ none. ends.quiet (sym begun ∙ none);
+      differs = ends.differs;
+    }
+
+-- a run of the log of these steps
+abbrev HasEnds : (by : Watch) (home : ℕ) (world : World) (key : ℕ) → State by.on.object home key (unnamed world.source.guest.space) → List Step → Type 0
+HasEnds by home world key state steps = (space : Space) × Ends by.on.object (run_world state) (counterpart state) (log_of (source by home) key (log_begun state) world steps) space
+
+always-step : (by : Watch) (home : ℕ) (world : World) (key : ℕ) (state : State by.on.object home key (unnamed world.source.guest.space)) (step : Step) (steps : List Step) → IsKept world → IsFollowed (unnamed world.source.guest.space) (log_begun state) world step →
+    (b : Bool) → is_released (next world step).source.phase ≡ b →
+    ((first : Next by.on.object home (run_world state) (counterpart state) ((source by home).writes key (log_begun state) world step) (unnamed (next world step).source.guest.space)) → is_released (next world step).source.phase ≡ false →
+    HasEnds by home (next world step) ((source by home).writes key (log_begun state) world step).key first.state steps) →
+    HasEnds by home world key state (step ∷ steps)
+always-step by home world key state step steps it followed false is rest =
+    let new = next world step in
+    let written = (source by home).writes key (log_begun state) world step in
+    let first = state-next by home world key state step it (keeps world step is) followed in
+    let ends = rest first is in (
+      ends.0,
+      next-ends by.on.object home (run_world state) (counterpart state) written (log_of (source by home) written.key written.begun new steps) (unnamed new.source.guest.space) ends.0 first
+          (subst (λ begun. Ends by.on.object (run_world first.state) (counterpart first.state) (log_of (source by home) written.key begun new steps) ends.0) (sym first.begun) ends.1),
+    )
+always-step by home world key state step steps it followed true is rest =
+    last (keeps-or-none by home key (log_begun state) world step)
+  where
+    new : World
+    new = next world step
+
+    written : Written
+    written = (source by home).writes key (log_begun state) world step
+
+    nothing : (more : ℕ) × (log_of (source by home) written.key written.begun new steps ≡ record { lines = []; key = more; begun = written.begun })
+    nothing = nothing-follows by home written.key written.begun new steps (reached-next world step it.0) is
+
+    last : Keeps world step ⊎ (written ≡ calls_written key (log_begun state) []) → HasEnds by home world key state (step ∷ steps)
+    last (inl kept) =
+        let first = state-next by home world key state step it kept followed in
+        let space = unnamed new.source.guest.space in (
+          space,
+          next-ends by.on.object home (run_world state) (counterpart state) written (log_of (source by home) written.key written.begun new steps) space space first
+              (same-ends (record { lines = []; key = written.key; begun = log_begun first.state }) (log_of (source by home) written.key written.begun new steps) (ap (λ (w : Written). w.lines) nothing.1)
+              (ap (λ (w : Written). w.begun) nothing.1 ∙ first.begun) (ends-at by.on.object home written.key space first.state)),
+        )
+    last (inr none) =
+        let space = unnamed world.source.guest.space in (
+          space,
+          same-ends (record { lines = []; key = key; begun = log_begun state }) (log_of (source by home) key (log_begun state) world (step ∷ steps))
+              ((λ i. (none i).lines ++ (nothing.1 i).lines))
+              (ap (λ (w : Written). w.begun) nothing.1 ∙ ap (λ (w : Written). w.begun) none) (ends-at by.on.object home key space state),
+        )
+
+pub always : (by : Watch) (home : ℕ) (world : World) (key : ℕ) (state : State by.on.object home key (unnamed world.source.guest.space)) (steps : List Step) → IsKept world → AreFollowed (source by home) key (log_begun state) world steps → HasEnds by home world key state steps
+always by home world key state [] it followed = (unnamed world.source.guest.space, ends-at by.on.object home key (unnamed world.source.guest.space) state)
+always by home world key state (step ∷ steps) it followed =
+    let new = next world step in
+    let written = (source by home).writes key (log_begun state) world step in
+    always-step by home world key state step steps it followed.0 (is_released new.source.phase) refl
+    (λ first kept. always by home new written.key first.state steps (reached-next world step it.0, kept) (subst (λ begun. AreFollowed (source by home) written.key begun new steps) first.begun followed.1))

@@ -99,7 +99,7 @@ found-page : (space : Space) (name page other : ℕ) (found : Option Page) → A
 found-page space name page other None agrees same registered = absurd (false≢true (sym agrees ∙ registered))
 found-page space name page other (Some one) agrees same registered = ap (λ n. eqb n other) (agrees.object ∙ sym same) ∙ eqb-self other
 
-page-watched : (space : Space) (kernel : Kernel) (name : ℕ) (object : Object) (first count page : ℕ) (range : Registration) → Agree space kernel name object → first ≤ page → page < first + count → is_registered space.object page ≡ true →
+pub page-watched : (space : Space) (kernel : Kernel) (name : ℕ) (object : Object) (first count page : ℕ) (range : Registration) → Agree space kernel name object → first ≤ page → page < first + count → is_registered space.object page ≡ true →
     has_page name page range ≡ true → watches_in kernel object.space first (first + count) range ≡ true
 page-watched space kernel name object first count page range agree low high registered has =
     let own = and_first (is_own name range) (in_range range.first range.count page) has in
@@ -329,6 +329,8 @@ page-unmapped space new first count name page false (Some one) bytes guards miss
       registered = (λ i. modes i || guarded i) ∙ agrees.registered;
       absent = λ h. there ∙ agrees.absent h;
       present = λ h. there ∙ agrees.present h;
+      whole = agrees.whole;
+      plain = agrees.plain;
       guarded = λ h. agrees.guarded (still-protected space first count page (ap (λ s. contains s page) (sym guards) ∙ h));
     }
 

@@ -21,7 +21,7 @@ use Rattle.uffd_log.specs.declared.line.Answer.{Answer}
 use Rattle.uffd_log.specs.declared.line.Answer.TheVariants as answer
 use Rattle.kernel_rules.specs.Faults.{fault_of, faults_without, is_seen}
 use Rattle.kernel_rules.specs.Ioctls.{is_own, span_of, tells_object}
-use Rattle.kernel_rules.specs.Pages.{is_missing, is_present}
+use Rattle.kernel_rules.specs.Pages.{is_missing, is_poisoned, is_present}
 use Rattle.kernel_rules.specs.Reads.{first_unread, is_message, is_same_event}
 use Rattle.kernel_rules.specs.State.{Kernel, fresh_kernel}
 use Rattle.kernel_rules.specs.declared.calling.Span.{Span}
@@ -32,7 +32,7 @@ use Rattle.kernel_rules.specs.declared.object.Object.{Object}
 use Rattle.kernel_rules.specs.declared.object.Registration.{Registration}
 
 -- what is known of a page agrees with the page of a space: it is registered with this object, in the same modes; it is not known to be missing
--- where it is present, nor present where it is missing; and it is guarded where it is write-protected. The rules may guard more pages, as after
+-- where it is present, nor present where it is missing, nor poisoned; it is not registered for minor faults; and it is guarded where it is write-protected. The rules may guard more pages, as after
 -- a refused call
 pub record IsPage (space : Space) (name page : ℕ) (found : Page) : Type 0 where
   pub object : found.object ≡ name
@@ -41,6 +41,8 @@ pub record IsPage (space : Space) (name page : ℕ) (found : Page) : Type 0 wher
   pub registered : is_registered space.object page ≡ true
   pub absent : is_missing found.presence ≡ true → contains_key space.host.bytes page ≡ false
   pub present : is_present found.presence ≡ true → contains_key space.host.bytes page ≡ true
+  pub whole : is_poisoned found.presence ≡ false
+  pub plain : found.minor ≡ false
   pub guarded : contains space.protected page ≡ true → found.guarded ≡ true
 
 -- the page is registered with this object at both, or with none at either

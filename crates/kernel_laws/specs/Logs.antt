@@ -1,6 +1,6 @@
 -- The steps of a world at one of its nodes, as a log: the calls that its handler makes, the map calls of its guest, and how they end. Other
 -- steps have no line.
-use Rattle.std.specs.Prelude.{◌≡◌, ℕ, not, Bool, ◌+◌, ◌-◌, ◌==◌, false, true, if◌then◌else◌, Option, Some, None, Result, Ok, List, [], ◌∷◌, ◌++◌, ◌*◌, length, map, max}
+use Rattle.std.specs.Prelude.{◌≡◌, ℕ, not, Bool, ◌+◌, ◌-◌, ◌/◌, ◌==◌, ◌&&◌, false, true, if◌then◌else◌, Option, Some, None, Result, Ok, List, [], ◌∷◌, ◌++◌, ◌*◌, length, map, max}
 use Rattle.std.specs.List.{list_any}
 use Rattle.std.specs.FinMap.{FinMap}
 use Rattle.std.specs.Ordering.{nat_cmp}
@@ -9,19 +9,21 @@ use Rattle.mig_base.specs.declared.Run.{Run}
 use Rattle.mig_base.specs.declared.TheConstants.{LOW, PAGE_SIZE}
 use Rattle.mig_base.specs.declared.command.Command.{Command}
 use Rattle.mig_base.specs.declared.command.Place.{Place}
-use Rattle.mig_base.specs.declared.command.Reply.{Reply}
 use Rattle.mig_base.specs.declared.effect.Effect.{Effect}
 use Rattle.mig_base.specs.declared.message.Message.{Message}
 use Rattle.mig_base.specs.declared.refusal.Refusal.{Refusal}
 use Rattle.mig_base.specs.declared.schedule.Step.{Step}
-use Rattle.mig_base.specs.Commands.{is_access}
+use Rattle.mig_base.specs.Commands.{is_access, page_of}
 use Rattle.mig_base.specs.Flat.{reply_of}
+use Rattle.mig_base.specs.Ranges.{in_range, pages_of, rounded}
+use Rattle.mig_base.specs.Sets.{without}
 use Rattle.mig_base.specs.Userfault.{Noted, Object, next_message}
 use Rattle.mig_model.specs.Bounds.{IsMapping}
+use Rattle.mig_model.specs.Cpus.{outstanding, processor_at}
 use Rattle.mig_model.specs.Ioctls.{all_features, event_features}
-use Rattle.mig_model.specs.Migration.{World, after_steps, next, outcome}
+use Rattle.mig_model.specs.Migration.{World, after_steps, guest_of, next, outcome}
 use Rattle.mig_model.specs.Handlers.{AreRunsOf}
-use Rattle.mig_model.specs.Host.{memory}
+use Rattle.mig_model.specs.Host.{host_dropped, memory}
 use Rattle.mig_model.specs.Promises.{IsReached}
 use Rattle.mig_model.specs.Source.{is_released, is_source_idle}
 use Rattle.mig_model.specs.Space.{Space, queued_by}
@@ -37,8 +39,8 @@ use Rattle.kernel_rules.specs.Ioctls.{has_calls, is_offer}
 use Rattle.kernel_rules.specs.Runs as runs
 use Rattle.kernel_rules.specs.Runs.{Event, IsRun, Outcome, Leads, begins, ends, lines_of}
 use Rattle.kernel_rules.specs.State.{Kernel, fresh_kernel, may_be_outside}
-use Rattle.kernel_laws.specs.Agreement.{Counterparts, message_of, telling}
-use Rattle.kernel_laws.specs.Maps.{failed}
+use Rattle.kernel_laws.specs.Agreement.{Counterparts, is_inside, message_of, telling}
+use Rattle.kernel_laws.specs.Maps.{answer_of_reply}
 
 -- a call, with how it ends
 pub record Ended : Type 0 where
@@ -62,7 +64,7 @@ register_calls on bits calls (run ∷ areas) =
 
 -- the lines of a call, by its number: nothing is between its beginning and its end
 abbrev pub lines_of_call : ℕ → Ended → List Event
-lines_of_call key ended = begins (record { key = key; space = 0; call = ended.call; last = false }) ∷ ends key ended.out ∷ []
+lines_of_call key ended = begins (record { key = key; space = 0; thread = 0; program = 0; call = ended.call; last = false }) ∷ ends key ended.out ∷ []
 
 -- the lines of these calls, numbered from a number on
 abbrev pub lines_of_calls : ℕ → List Ended → List Event
@@ -148,16 +150,10 @@ map_call (Command.Mremap addr old_len new_len true (Some target)) = Some (call.M
 map_call (Command.DontNeed addr len) = Some (call.Madvise addr len 4)
 map_call command = None
 
--- how a map call ends; an access has other replies too
-abbrev pub answer_of_reply : Reply → Answer
-answer_of_reply (Reply.At start) = Value start
-answer_of_reply (Reply.Refused errno) = failed errno
-answer_of_reply reply = Done
-
 -- a map call of the guest in an address space: it begins and takes effect, and ends at once if it has queued no message
 abbrev pub map_written : (home key : ℕ) → List Open → (left : ℕ) → Answer → Call → Written
 map_written home key begun left answer call =
-    let made : Made = record { key = key; space = home; call = call; last = false } in
+    let made : Made = record { key = key; space = home; thread = 0; program = 0; call = call; last = false } in
     let out : Outcome = record { answer = answer; messages = []; runs = [] } in
     if left == 0 then record { lines = begins made ∷ ends key out ∷ []; key = key + 1; begun = begun }
     else record { lines = begins made ∷ []; key = key + 1; begun = begun ++ record { made = made; out = out; left = left } ∷ [] }
@@ -176,6 +172,17 @@ ends_of (one ∷ begun) = if one.left == 1 then ends one.made.key one.out ∷ []
 abbrev pub one_less : List Open → List Open
 one_less [] = []
 one_less (one ∷ begun) = if one.left == 1 then begun else record one { left = one.left - 1 } ∷ begun
+
+-- a space without the pages that a call is to clear
+abbrev pub without_cleared : Space → Call → Space
+without_cleared space (call.Madvise addr len advice) =
+    record space { host = host_dropped space.host (addr / PAGE_SIZE) (pages_of len); protected = without space.protected (addr / PAGE_SIZE) (pages_of len) }
+without_cleared space call = space
+
+-- without those that the map calls under way are to clear
+abbrev pub cleared : Space → List Open → Space
+cleared space [] = space
+cleared space (one ∷ begun) = cleared (without_cleared space one.made.call) begun
 
 -- UFFDIO_WAKE of the part of a range that the model may have mapped
 abbrev pub wake_range : Descriptor → (start len : ℕ) → List Ended
@@ -225,7 +232,7 @@ pub record Arrival : Type 0 where
   pub offer : ℕ
   pub offers : is_offer all_features offer ≡ true
   pub calls : ℕ
-  pub has : has_calls calls ≡ true
+  pub has : has_calls 1 calls ≡ true
   pub on : Descriptor
   pub from : ℕ
   pub source : may_be_outside from PAGE_SIZE ≡ false
@@ -240,10 +247,18 @@ first_calls it =
     answered (call.Open false 0x800) (Opened it.on) ∷ answered (call.Api it.on 0xaa event_features) (Features all_features it.offer)
     ∷ register_calls it.on 1 it.calls it.areas
 
--- the whole log of a destination: these calls, and those of the steps after them. Its guest is process 0
+-- the destination. Its guest is process 0
+abbrev pub arriving : Arrival → Node
+arriving it = destination it.on it.from 0
+
+-- its whole log: these calls, and those of the steps after them
 abbrev pub whole_log : Arrival → List Step → Written
 whole_log it steps =
-    then_written (calls_written 0 [] (first_calls it)) (log_of (destination it.on it.from 0) (length (first_calls it)) [] (arrived it) steps)
+    then_written (calls_written 0 [] (first_calls it)) (log_of (arriving it) (length (first_calls it)) [] (arrived it) steps)
+
+-- its space after these steps
+abbrev pub space_left : Arrival → List Step → Space
+space_left it steps = space_after (arriving it) (arrived it) steps
 
 -- The source
 
@@ -286,7 +301,7 @@ resolve_call on effect = act_call on effect
 pub record Watch : Type 0 where
   pub on : Descriptor
   pub calls : ℕ
-  pub has : has_calls calls ≡ true
+  pub has : has_calls 3 calls ≡ true
   pub runs : FinMap nat_cmp Prot → List Run
   pub are : (areas : FinMap nat_cmp Prot) → IsMapping areas → AreRunsOf areas (runs areas)
 
@@ -332,6 +347,10 @@ opening_calls it =
 abbrev pub source_log : Beginning → List Step → Written
 source_log it steps = then_written (calls_written 0 [] (opening_calls it)) (log_of (source it.by 0) 2 [] it.world steps)
 
+-- its space after these steps
+abbrev pub source_left : Beginning → List Step → Space
+source_left it steps = space_after (source it.by 0) it.world steps
+
 -- Which steps
 
 -- a step begins no map call
@@ -344,21 +363,36 @@ abbrev pub HaveNoMapCalls : List Step → Type 0
 HaveNoMapCalls [] = Unit {0}
 HaveNoMapCalls (step ∷ steps) = IsNoMapCall step × HaveNoMapCalls steps
 
--- whether a command neither moves nor clears pages
+-- whether a command moves no pages, and clears none past the model's address space
 abbrev pub is_followed : Command → Bool
 is_followed (Command.Mremap addr old_len new_len may_move fixed) = false
-is_followed (Command.DontNeed addr len) = false
+is_followed (Command.DontNeed addr len) = is_inside addr (rounded len)
 is_followed command = true
 
--- of the map calls, a step begins none but mmap(2) and munmap(2)
-abbrev pub IsFollowed : Step → Type 0
-IsFollowed (Step.Issue cpu command) = is_followed command ≡ true
-IsFollowed step = Unit {0}
+-- whether a command may be made in a space while a call is under way: until MADV_DONTNEED returns, none of its pages is accessed, and no
+-- other map call queues a message
+abbrev pub keeps_off : Space → Command → Call → Bool
+keeps_off space command (call.Madvise addr len advice) =
+    if is_access command then not (in_range (addr / PAGE_SIZE) (pages_of len) (page_of command)) else queued_by space command == 0
+keeps_off space command call = true
 
--- each of these steps
-abbrev pub AreFollowed : List Step → Type 0
-AreFollowed [] = Unit {0}
-AreFollowed (step ∷ steps) = IsFollowed step × AreFollowed steps
+-- whether it may be made with these calls under way
+abbrev pub keeps_off_all : Space → Command → List Open → Bool
+keeps_off_all space command begun = not (list_any (λ (one : Open). not (keeps_off space command one.made.call)) begun)
+
+-- a step of a node with this space, and these map calls under way, makes no command that is left out
+abbrev pub IsFollowed : Space → List Open → World → Step → Type 0
+IsFollowed space begun world (Step.Issue cpu command) = (is_followed command && keeps_off_all space command begun) ≡ true
+IsFollowed space begun world (Step.Retry cpu) =
+    (command : Command) → outstanding (processor_at (guest_of world).cpus cpu) ≡ Some command → keeps_off_all space command begun ≡ true
+IsFollowed space begun world step = Unit {0}
+
+-- each of these steps of a node, with the map calls that are under way in its log
+abbrev pub AreFollowed : Node → (key : ℕ) → List Open → World → List Step → Type 0
+AreFollowed node key begun world [] = Unit {0}
+AreFollowed node key begun world (step ∷ steps) =
+    let first = node.writes key begun world step in
+    IsFollowed (node.space world) begun world step × AreFollowed node first.key first.begun (next world step) steps
 
 -- the source has not released its memory, with which its object goes, when these steps are made
 abbrev pub IsUnreleased : World → List Step → Type 0
@@ -381,7 +415,7 @@ AreLate kernel = list_any (λ difference. not (is_late difference)) kernel.diffe
 
 -- a kernel, and these map calls under way
 abbrev pub under_way : Kernel → List Open → runs.World
-under_way kernel begun = record { kernel = kernel; begun = map (λ (one : Open). record { made = one.made; out = Some one.out }) begun }
+under_way kernel begun = record { kernel = kernel; begun = map (λ (one : Open). record { made = one.made; out = Some one.out; left = 0 }) begun }
 
 -- a kernel, and no call under way
 abbrev pub at_rest : Kernel → runs.World
@@ -401,6 +435,10 @@ pub record Running : Type 0 where
   pub from : ℕ
   pub source : may_be_outside from PAGE_SIZE ≡ false
 
+-- the destination
+abbrev pub running : Running → Node
+running at = destination at.on at.from at.one.object.space
+
 -- a reached world, a kernel at rest whose object agrees with the source's, and the object's descriptor
 pub record Watching : Type 0 where
   pub world : World
@@ -411,14 +449,18 @@ pub record Watching : Type 0 where
   pub quiet : IsQuiet one.kernel
   pub own : by.on.object ≡ one.name
 
--- a run of this part of a log leads from a kernel whose object agrees with the model's to one whose object agrees with this space, and adds
--- no other difference
+-- the source
+abbrev pub watching : Watching → Node
+watching at = source at.by at.one.object.space
+
+-- a run of this part of a log leads from a kernel whose object agrees with the model's to one whose object agrees with this space, but for
+-- the pages that calls under way are to clear, and adds no other difference
 pub record IsLogged (one : Counterparts) (log : Written) (space : Space) : Type 0 where
   pub steps : List runs.Step
   pub last : Counterparts
   pub whole : lines_of steps ≡ log.lines
   pub leads : Leads (at_rest one.kernel) steps (under_way last.kernel log.begun)
-  pub leaves : last.space ≡ space
+  pub leaves : cleared last.space log.begun ≡ space
   pub name : last.name ≡ one.name
   pub quiet : log.begun ≡ [] → IsQuiet last.kernel
   pub differs : AreLate one.kernel → AreLate last.kernel
@@ -427,10 +469,10 @@ pub record IsLogged (one : Counterparts) (log : Written) (space : Space) : Type 
 abbrev pub AreLogged : Node → Counterparts → (key : ℕ) → World → List Step → Type 0
 AreLogged node one key world steps = IsLogged one (log_of node key [] world steps) (space_after node world steps)
 
--- a run of this log, from no object on, ends with one that agrees with this space, and has no other difference
+-- a run of this log, from no object on, ends with one that agrees with this space, but for those pages, and has no other difference
 pub record HasRun (log : Written) (space : Space) : Type 0 where
   pub steps : List runs.Step
   pub last : Counterparts
   pub run : IsRun log.lines steps (under_way last.kernel log.begun)
   pub differs : AreLate last.kernel
-  pub leaves : last.space ≡ space
+  pub leaves : cleared last.space log.begun ≡ space

@@ -9,13 +9,14 @@ use Rattle.mig_base.specs.declared.command.Command.TheVariants.{Mmap}
 use Rattle.mig_base.specs.declared.command.Errno.{Errno}
 use Rattle.mig_base.specs.declared.command.Place.{Place}
 use Rattle.mig_base.specs.declared.command.Reply.{Reply}
-use Rattle.mig_base.specs.Flat.{Memory, mmap_reply}
-use Rattle.mig_base.specs.Ranges.{in_range, pages_of}
+use Rattle.mig_base.specs.declared.command.Reply.TheVariants.{At, Refused}
+use Rattle.mig_base.specs.Flat.{Memory, dontneed_reply, mmap_reply}
+use Rattle.mig_base.specs.Ranges.{in_range, pages_of, rounded}
 use Rattle.mig_model.specs.Host.{memory}
 use Rattle.mig_model.specs.Ioctls.{has_events}
 use Rattle.mig_model.specs.Space.{called}
 use Rattle.uffd_log.specs.declared.line.Answer.{Answer}
-use Rattle.uffd_log.specs.declared.line.Answer.TheVariants.{Done, Failed}
+use Rattle.uffd_log.specs.declared.line.Answer.TheVariants.{Done, Failed, Value}
 use Rattle.kernel_rules.specs.Ioctls.{span_of}
 use Rattle.kernel_rules.specs.MapCalls.{is_placed, is_told_all, madvised, mmapped, munmapped}
 use Rattle.kernel_rules.specs.Pages.{is_present}
@@ -23,7 +24,7 @@ use Rattle.kernel_rules.specs.State.{Kernel, page_is}
 use Rattle.kernel_rules.specs.declared.calling.Span.{Span}
 use Rattle.kernel_rules.specs.declared.calling.Untold.{Untold}
 use Rattle.kernel_rules.specs.declared.known.Page.{Page}
-use Rattle.kernel_laws.specs.Agreement.{Counterparts, Takes, number_of}
+use Rattle.kernel_laws.specs.Agreement.{Counterparts, Takes, is_inside, number_of}
 
 -- whether no call of this number is under way, or has anything to tell
 abbrev pub is_new_call : Kernel → ℕ → Bool
@@ -45,6 +46,12 @@ Follow it cpu command rule = Takes rule (called it.one.space cpu command) it.one
 -- the answer of a refused call
 abbrev pub failed : Errno → Answer
 failed errno = Failed (number_of errno) None
+
+-- how a map call ends; an access has other replies too
+abbrev pub answer_of_reply : Reply → Answer
+answer_of_reply (At start) = Value start
+answer_of_reply (Refused errno) = failed errno
+answer_of_reply reply = Done
 
 -- the flat memory of the guest
 abbrev pub flat : MapCall → Memory
@@ -78,18 +85,20 @@ IsPlaced made start = is_placed made.addr made.flags start ≡ true
 abbrev pub maps : MapCall → Mapping → Answer → Option Kernel
 maps it made answer = mmapped it.one.kernel it.key it.one.object.space made.addr made.len made.flags answer
 
--- a MADV_DONTNEED that succeeds
+-- a MADV_DONTNEED, with the answer of the model
 abbrev pub discards : MapCall → (addr len : ℕ) → Option Kernel
-discards it addr len = madvised it.one.kernel it.key it.one.object.space addr len 4 Done
+discards it addr len = madvised it.one.kernel it.key it.one.object.space addr len 4 (answer_of_reply (dontneed_reply (flat it) addr len))
 
 -- no page of a range is known to be present: the model has a MADV_DONTNEED clear its pages at once, a kernel once the REMOVE is read
 abbrev pub AreUnseen : Counterparts → (first count : ℕ) → Type 0
 AreUnseen one first count =
     (page : ℕ) → in_range first count page ≡ true → page_is (λ (found : Page). is_present found.presence) (one.kernel.pages one.object.space page) ≡ false
 
--- the same of the pages of a range of bytes
-abbrev pub IsUnseen : MapCall → (addr len : ℕ) → Type 0
-IsUnseen it addr len = AreUnseen it.one (addr / PAGE_SIZE) (pages_of len)
+-- a MADV_DONTNEED clears no page that is known to be present. Where a page of its range is not mapped, the range ends in the model's
+-- address space
+pub record MayDiscard (it : MapCall) (addr len : ℕ) : Type 0 where
+  pub unseen : AreUnseen it.one (addr / PAGE_SIZE) (pages_of len)
+  pub inside : dontneed_reply (flat it) addr len ≡ Refused Errno.Enomem → is_inside addr (rounded len) ≡ true
 
 -- the pages that a call is to clear are missing
 abbrev pub AreGone : Counterparts → Span → Type 0

@@ -14,7 +14,7 @@ ghost use Rattle.mig_base.specs.declared.command.Reply.{Reply};
 ghost use Rattle.mig_base.specs.declared.effect.Effect.{Effect};
 ghost use Rattle.mig_base.specs.declared.schedule.Step.{Step};
 ghost use Rattle.mig_base.specs.Bytes.{zero_page};
-ghost use Rattle.mig_base.specs.Flat.{dontneed_reply, munmap_reply};
+ghost use Rattle.mig_base.specs.Flat.{munmap_reply};
 ghost use Rattle.mig_model.specs.Ioctls as model;
 ghost use Rattle.mig_model.specs.Ioctls.{read_space};
 ghost use Rattle.mig_model.specs.Migration.{next};
@@ -27,8 +27,8 @@ ghost use Rattle.kernel_rules.specs.State.{may_be_outside};
 ghost use Rattle.kernel_laws.specs.Agreement.{Agree, AreMapped, AreUnmapsAndRemaps, Counterparts, Takes, answer_of_api, answer_of_put, answer_of_register, answer_of_wake, is_inside};
 ghost use Rattle.kernel_laws.specs.Example.{IsOfDestination, its_calls};
 ghost use Rattle.kernel_laws.specs.Handlers.{DestinationStep, SourceStep, copies_page, destination_after, protects_pages, source_after, wakes_page, zeroes_page};
-ghost use Rattle.kernel_laws.specs.Logs.{AreFollowed, AreLogged, Arrival, Beginning, HasRun, IsUnreleased, Running, Watching, arrived, calls_written, destination, source, source_log, space_after, whole_log};
-ghost use Rattle.kernel_laws.specs.Maps.{Follow, IsPlaced, IsUnseen, MapCall, Mapping, MayClear, command_of, discards, failed, flat, maps, reply_of, unmaps};
+ghost use Rattle.kernel_laws.specs.Logs.{AreFollowed, AreLogged, Arrival, Beginning, HasRun, IsUnreleased, Running, Watching, arrived, arriving, calls_written, first_calls, running, source, source_left, source_log, space_left, watching, whole_log};
+ghost use Rattle.kernel_laws.specs.Maps.{Follow, IsPlaced, MapCall, Mapping, MayClear, MayDiscard, command_of, discards, failed, maps, reply_of, unmaps};
 ghost use Rattle.kernel_laws.specs.Reading.{EventNext, FaultNext, NoneNext, Trying, fails_to_read, makes, reads_event, reads_fault};
 
 /// A kernel may answer each ioctl as the model does, whether it is refused, or done in part or whole. The range ends in the model's address
@@ -43,7 +43,7 @@ pub fn a_kernel_may_answer_so()
         (answer_of_api ioctls (model.handshake_answer one.space api features)))
         (model.handshaken one.space api features) one.name }
     ensures register { (one : Counterparts) (start len bits ioctls : ℕ) →
-        rules.has_calls ioctls ≡ true →
+        rules.has_calls bits ioctls ≡ true →
         (model.register_error one.space start len bits ≡ None → AreMapped one.space start len) →
         Takes (rules.registered one.kernel one.name one.object start len bits
         (answer_of_register ioctls (model.register_error one.space start len bits)))
@@ -72,16 +72,18 @@ pub fn a_kernel_may_answer_so()
 {}
 
 /// A kernel may let read(2) return each message that the model's object returns, in the same order, and may fail as it does. The message is
-/// queued when it is read: the thread whose page fault it is has been on its way until then, or the map call has waited.
+/// queued when it is read: the thread whose page fault it is has been on its way until then, or the map call has waited. No thread reads its own
+/// page fault.
 pub fn a_kernel_may_be_read_so()
     ensures fault { (next : FaultNext) (key : ℕ) →
-        (thread : ℕ) × Takes (reads_fault next.one thread key next.room next.noted.message)
+        (thread : ℕ) ×
+        Takes (reads_fault next.one thread key next.reader next.room next.noted.message)
         (read_space next.one.space) next.one.name }
-    ensures event { (next : EventNext) (key : ℕ) →
-        (call : ℕ) × Takes (reads_event next.one call key next.room next.noted.message)
+    ensures event { (next : EventNext) (key : ℕ) (reader : Option ℕ) → (call : ℕ) ×
+        Takes (reads_event next.one call key reader next.room next.noted.message)
         (read_space next.one.space) next.one.name }
-    ensures none { (next : NoneNext) (key : ℕ) (room : Option ℕ) →
-        Takes (fails_to_read next.one key room next.errno) next.one.space next.one.name }
+    ensures none { (next : NoneNext) (key : ℕ) (reader room : Option ℕ) →
+        Takes (fails_to_read next.one key reader room next.errno) next.one.space next.one.name }
 {}
 
 /// A thread of a kernel may wait at each page where a processor of the model sleeps, and queue the same page fault; where the model makes the
@@ -94,8 +96,9 @@ pub fn a_thread_waits_as_a_processor()
 
 /// A kernel may make a guest's munmap(2), mmap(2) and MADV_DONTNEED as the model does, without a difference, and both agree afterwards. The range
 /// is no longer registered, or cleared, and if any page of it was registered an UNMAP or a REMOVE of it waits to be read. A refused call
-/// changes nothing; a call returns once all that it told is read. Its number is new, and a fixed mapping is where it was to be. No page that
-/// MADV_DONTNEED clears is known to be present: a kernel clears it only when the REMOVE is read. mremap(2) is left out.
+/// changes nothing, but for MADV_DONTNEED over a hole; a call returns once all that it told is read. Its number is new, and a fixed mapping is
+/// where it was to be. No page that MADV_DONTNEED clears is known to be present: a kernel clears it only when the REMOVE is read. mremap(2) is
+/// left out.
 pub fn a_kernel_may_map_so()
     ensures munmap { (it : MapCall) (cpu addr len : ℕ) → munmap_reply addr len ≡ Reply.Done →
         Follow it cpu (Command.Munmap addr len) (unmaps it addr len Answer.Done) }
@@ -108,8 +111,7 @@ pub fn a_kernel_may_map_so()
     ensures mmap_refused { (it : MapCall) (made : Mapping) (cpu : ℕ) (errno : Errno) →
         reply_of it made ≡ Reply.Refused errno →
         Follow it cpu (command_of made) (maps it made (failed errno)) }
-    ensures dontneed { (it : MapCall) (cpu addr len : ℕ) →
-        dontneed_reply (flat it) addr len ≡ Reply.Done → IsUnseen it addr len →
+    ensures dontneed { (it : MapCall) (cpu addr len : ℕ) → MayDiscard it addr len →
         Follow it cpu (Command.DontNeed addr len) (discards it addr len) }
     ensures clears { (one : Counterparts) (key : ℕ) → MayClear one key →
         Takes (clears one.kernel key) one.space one.name }
@@ -165,15 +167,17 @@ pub fn a_kernel_follows_the_source()
 /// The steps of a world whose destination runs, as a log of its handler's calls and of its guest's map calls: the rules of a kernel have a run
 /// of it, from each kernel at rest whose object agrees, to one that agrees with the destination after the steps. A thread sees its page when its
 /// processor sleeps with a message, and queues its fault when that is read. That its page may be there by then, or gone, is the run's only
-/// difference from the model. A map call returns once its message is read: munmap(2) and mmap(2) have one at most. No step begins another map
-/// call, and the buffer of UFFDIO_COPY is where any process may have memory. So the whole log, which begins where the destination has taken the
-/// Package, opens its object and registers the mapped pages, is one that a kernel may have written.
+/// difference from the model. A map call returns once its message is read: munmap(2), mmap(2) and MADV_DONTNEED have one at most. The pages of
+/// MADV_DONTNEED stay in the kernel until its REMOVE is read; until then nobody accesses them, and no other map call has a message. No step
+/// moves pages, and the buffer of UFFDIO_COPY is where any process may have memory. So the whole log, which begins where the destination has
+/// taken the Package, opens its object and registers the mapped pages, is one that a kernel may have written.
 pub fn a_destination_is_logged()
-    ensures steps { (at : Running) (key : ℕ) (steps : List Step) → AreFollowed steps →
-        AreLogged (destination at.on at.from at.one.object.space) at.one key at.world steps }
-    ensures whole { (it : Arrival) (steps : List Step) → AreFollowed steps →
-        HasRun (whole_log it steps)
-        (space_after (destination it.on it.from 0) (arrived it) steps) }
+    ensures steps { (at : Running) (key : ℕ) (steps : List Step) →
+        AreFollowed (running at) key [] at.world steps →
+        AreLogged (running at) at.one key at.world steps }
+    ensures whole { (it : Arrival) (steps : List Step) →
+        AreFollowed (arriving it) (length (first_calls it)) [] (arrived it) steps →
+        HasRun (whole_log it steps) (space_left it steps) }
 {}
 
 /// There is such a log: the destination opens its object, registers the guest's one page, reads a page fault and copies the page. Its processor
@@ -183,17 +187,21 @@ pub fn a_destination_fetches_a_page()
     ensures run { (space : Space) × HasRun (calls_written 0 [] its_calls) space }
 {}
 
-/// So is a source, until its memory is released, with its guest's map calls until the destination runs. Start and Round register every mapped
-/// page in both modes, and a page is protected before it is sent. Its log has no thread numbers: the model's unread fault stays when its
-/// processor is woken, and that one may sleep at another page by then, where a thread of a kernel has one fault at a time. A fault may be read
-/// once its page is there or gone, or is no longer protected: this is the run's only difference from the model.
+/// So is a source, with its guest's map calls until the destination runs; the objects agree until its memory is released. Start and Round
+/// register every mapped page in both modes, and a page is protected before it is sent. Its log has no thread numbers: the model's unread fault
+/// stays when its processor is woken, and that one may sleep at another page by then, where a thread of a kernel has one fault at a time. A fault
+/// may be read once its page is there or gone, or is no longer protected: this is the run's only difference from the model. After the release
+/// nothing is written: the log has a run still, in which the object is not closed.
 pub fn a_source_is_logged()
-    ensures steps { (at : Watching) (key : ℕ) (steps : List Step) → AreFollowed steps →
-        IsUnreleased at.world steps →
-        AreLogged (source at.by at.one.object.space) at.one key at.world steps }
-    ensures whole { (it : Beginning) (steps : List Step) → AreFollowed steps →
-        IsUnreleased it.world steps → HasRun (source_log it steps)
-        (space_after (source it.by 0) it.world steps) }
+    ensures steps { (at : Watching) (key : ℕ) (steps : List Step) →
+        AreFollowed (watching at) key [] at.world steps → IsUnreleased at.world steps →
+        AreLogged (watching at) at.one key at.world steps }
+    ensures whole { (it : Beginning) (steps : List Step) →
+        AreFollowed (source it.by 0) 2 [] it.world steps →
+        IsUnreleased it.world steps → HasRun (source_log it steps) (source_left it steps) }
+    ensures released { (it : Beginning) (steps : List Step) →
+        AreFollowed (source it.by 0) 2 [] it.world steps →
+        (space : Space) × HasRun (source_log it steps) space }
 {}
 
 /// There is such an object of a kernel for every sound space of the model whose unread messages are UNMAP and REMAP, if any. That a log leads

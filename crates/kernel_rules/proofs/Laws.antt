@@ -1,6 +1,6 @@
 -- What the checker finds is a run of the log.
 use Rattle.std.proofs.Common.{◌≡◌, ◌∙◌, ℕ, zero, suc, Bool, true, false, List, [], ◌∷◌, ◌++◌, Option, Some, None, refl, sym, ap, subst, length, take, append_assoc}
-use Rattle.std.specs.Prelude.{is_some, ◌==◌, ◌&&◌, if◌then◌else◌, not, filter_map, map, option_map, option_to_list, slice_get}
+use Rattle.std.specs.Prelude.{is_some, ◌-◌, ◌==◌, ◌&&◌, if◌then◌else◌, not, filter_map, map, option_map, option_to_list, slice_get}
 use Rattle.std.proofs.lemmas.Bool.{eq-eqb, eqb-true, ne_eqb}
 use Rattle.std.proofs.lemmas.List.{append-nil, map-append}
 use Rattle.std.proofs.Math.Numerals.{add-one}
@@ -13,10 +13,10 @@ use Rattle.kernel_rules.specs.declared.certify.BegunCall.{BegunCall}
 use Rattle.kernel_rules.specs.declared.run.Made.{Made}
 use Rattle.kernel_rules.specs.declared.run.Move.{Move}
 use Rattle.kernel_rules.specs.declared.run.Move.TheVariants as move
-use Rattle.kernel_rules.specs.Certified.{Place, affected, at_end, certified, effected, ended_at, entered, find_of, fresh_place, is_ended_by, lined, moved, moved_all, moved_by, next_after, others_than, outcome_in, protected_by, read_on, ruled, step_of, steps_of, then_moved, IsCertified}
+use Rattle.kernel_rules.specs.Certified.{Place, affected, at_end, certified, effected, ended_at, entered, find_of, fresh_place, is_ended_by, is_with, lined, moved, moved_all, moved_by, next_after, next_taken, others_than, outcome_in, protected_by, read_on, ruled, step_of, steps_of, then_moved, IsCertified}
 use Rattle.kernel_rules.specs.Faults.{sees, queues, leaves}
-use Rattle.kernel_rules.specs.MapCalls.{clears, may_return, returned, tells}
-use Rattle.kernel_rules.specs.Runs.{IsClean, Begun, Outcome, Step, World, Event, begins, begun_of, call_clears, call_protects, call_tells, effect, effect_at_end, ends, is_still, line, line_of, lines_of, protect_of, protects_first, takes, thread_leaves, thread_queues, thread_sees, without_begun, world_with, IsStep, Leads}
+use Rattle.kernel_rules.specs.MapCalls.{clears, drops, may_return, returned, tells}
+use Rattle.kernel_rules.specs.Runs.{IsClean, Begun, Outcome, Step, World, Event, all_left, begins, begun_of, call_clears, call_protects, call_tells, effect, effect_at_end, effect_by, ends, is_still, line, line_of, lines_of, none_left, page_drops, protect_of, protects_first, read_starts, read_takes, refusal, refuses, starts, takes, takes_next, thread_leaves, thread_queues, thread_sees, without_begun, world_with, IsStep, Leads}
 use Rattle.kernel_rules.specs.State.{Kernel}
 use Rattle.kernel_rules.specs.Held.{kernel_of}
 use Rattle.kernel_rules.specs.Worlds.{if_made}
@@ -31,7 +31,7 @@ out_of log (Some at) = outcome_in (slice_get log at)
 
 -- a call that has begun
 abbrev pub begun_in : List Event → BegunCall → Begun
-begun_in log call = record { made = call.made; out = out_of log call.at }
+begun_in log call = record { made = call.made; out = out_of log call.at; left = call.left }
 
 abbrev pub world_of : List Event → Place → World
 world_of log place = record { kernel = place.kernel; begun = map (begun_in log) place.begun }
@@ -70,14 +70,14 @@ pub record Advance (log : List Event) (old : Place) (step : Move) (new : Place) 
   pub next : new.next ≡ next_after old.next step
 
 begin_advances : (log : List Event) (old : Place) (made : Made) → find_of old.begun made.key ≡ None → slice_get log old.next ≡ Some (begins made)
-    → Advance log old move.Line (read_on (record old { begun = old.begun ++ record { made = made; at = None } ∷ [] }))
+    → Advance log old move.Line (read_on (record old { begun = old.begun ++ record { made = made; at = None; left = 0 } ∷ [] }))
 begin_advances log old made fresh here =
     record {
       made = line (begins made);
       is = ap (option_map line) here;
       leads = (
         found_in log old.begun made.key ∙ ap (option_map (begun_in log)) fresh,
-        ap (λ (b : List Begun). record (world_of log old) { begun = b }) (map-append (begun_in log) old.begun (record { made = made; at = None } ∷ [])),
+        ap (λ (b : List Begun). record (world_of log old) { begun = b }) (map-append (begun_in log) old.begun (record { made = made; at = None; left = 0 } ∷ [])),
       );
       lines = rw add-one (taken_more log old.next (begins made) here);
       next = refl;
@@ -91,7 +91,7 @@ ended_out log _ (Some at) next of out here ended = rw (eqb-true at next ended, h
 ended_out log _ None next of out here ended = cc
 
 end_advances : (log : List Event) (old : Place) (key : ℕ) (one : BegunCall) (out : Outcome) → is_still out ≡ true → find_of old.begun key ≡ Some one → slice_get log old.next ≡ Some (ends key out)
-    → (may_return old.kernel key && is_ended_by one.at out.answer old.next) ≡ true
+    → (may_return old.kernel key && (is_ended_by one.at out.answer old.next && one.left == 0)) ≡ true
     → Advance log old move.Line (read_on (record old { kernel = returned old.kernel key; begun = others_than key old.begun }))
 end_advances log old key one out still found here may =
     record {
@@ -102,7 +102,8 @@ end_advances log old key one out still found here may =
         still,
         found_in log old.begun key ∙ ap (option_map (begun_in log)) found,
         and_first _ _ may,
-        ended_out log out.answer one.at old.next key out here (and_second (may_return old.kernel key) _ may),
+        ended_out log out.answer one.at old.next key out here (and_first _ _ (and_second (may_return old.kernel key) _ may)),
+        eqb-true one.left 0 (and_second (is_ended_by one.at out.answer old.next) _ (and_second (may_return old.kernel key) _ may)),
         ap (λ (b : List Begun). record { kernel = returned old.kernel key; begun = b }) (sym (without_in log old.begun key)),
       );
       lines = rw add-one (taken_more log old.next (ends key out) here);
@@ -115,7 +116,7 @@ still_advances log old new key out still here is =
     elim (find_of old.begun key) as (λ o. find_of old.begun key ≡ o → option_map read_on (ended_at old key out.answer o) ≡ Some new → Advance log old move.Line new) [
       | None ↦ λ e h. absurd cc
       | Some one ↦ λ e h.
-          elim (may_return old.kernel key && is_ended_by one.at out.answer old.next) as (λ b. (may_return old.kernel key && is_ended_by one.at out.answer old.next) ≡ b
+          elim (may_return old.kernel key && (is_ended_by one.at out.answer old.next && one.left == 0)) as (λ b. (may_return old.kernel key && (is_ended_by one.at out.answer old.next && one.left == 0)) ≡ b
           → option_map read_on (if b then Some (record old { kernel = returned old.kernel key; begun = others_than key old.begun }) else None) ≡ Some new → Advance log old move.Line new) [
             | false ↦ λ may i. absurd cc
             | true ↦ λ may i.
@@ -126,11 +127,11 @@ still_advances log old new key out still here is =
 
 event_advances : (log : List Event) (old new : Place) (one : Event) → slice_get log old.next ≡ Some one → option_map read_on (entered old one) ≡ Some new → Advance log old move.Line new
 event_advances log old new (begins made) here is =
-    elim (find_of old.begun made.key) as (λ o. find_of old.begun made.key ≡ o → option_map read_on (if is_some o then None else Some (record old { begun = old.begun ++ record { made = made; at = None } ∷ [] })) ≡ Some new
+    elim (find_of old.begun made.key) as (λ o. find_of old.begun made.key ≡ o → option_map read_on (if is_some o then None else Some (record old { begun = old.begun ++ record { made = made; at = None; left = 0 } ∷ [] })) ≡ Some new
     → Advance log old move.Line new) [
       | Some one ↦ λ e h. absurd cc
       | None ↦ λ e h.
-          let same : read_on (record old { begun = old.begun ++ record { made = made; at = None } ∷ [] }) ≡ new = cc in
+          let same : read_on (record old { begun = old.begun ++ record { made = made; at = None; left = 0 } ∷ [] }) ≡ new = cc in
           subst (λ (p : Place). Advance log old move.Line p) same (begin_advances log old made e here)
     ] refl is
 event_advances log old new (ends key out) here is =
@@ -143,45 +144,52 @@ line_advances : (log : List Event) (old new : Place) (one : Option Event) → sl
 line_advances log old new None here is = absurd cc
 line_advances log old new (Some one) here is = event_advances log old new one here is
 
-effect_advances : (log : List Event) (old : Place) (key at : ℕ) (one : BegunCall) (out : Outcome) (kernel : Kernel) → find_of old.begun key ≡ Some one → one.at ≡ None
-    → outcome_in (slice_get log at) ≡ Some out → takes old.kernel one.made out ≡ Some kernel
-    → Advance log old (move.Effect key at) (record old { kernel = kernel; begun = others_than key old.begun ++ record { made = one.made; at = Some at } ∷ [] })
-effect_advances log old key at one out kernel found none here took =
+-- the step of a move by which a call takes effect, by a rule
+pub record IsEffect (log : List Event) (old : Place) (key at : ℕ) (rule : Kernel → Made → Outcome → Option Kernel) (left : Outcome → ℕ) (step : Move) (made : Outcome → Step) : Type 0 where
+  pub is : (out : Outcome) → outcome_in (slice_get log at) ≡ Some out → step_of log old.next step ≡ Some (made out)
+  pub leads : (out : Outcome) (after : World) → effect_by rule left (world_of log old) (begun_of (world_of log old).begun key) key out ≡ Some after → IsStep (world_of log old) (made out) after
+  pub silent : (out : Outcome) → line_of (made out) ≡ None
+  pub next : next_after old.next step ≡ old.next
+
+effect_advances : (log : List Event) (old : Place) (key at : ℕ) (rule : Kernel → Made → Outcome → Option Kernel) (left : Outcome → ℕ) (step : Move) (made : Outcome → Step) (one : BegunCall) (out : Outcome) (kernel : Kernel) → IsEffect log old key at rule left step made
+    → find_of old.begun key ≡ Some one → one.at ≡ None → outcome_in (slice_get log at) ≡ Some out → rule old.kernel one.made out ≡ Some kernel
+    → Advance log old step (record old { kernel = kernel; begun = others_than key old.begun ++ record { made = one.made; at = Some at; left = left out } ∷ [] })
+effect_advances log old key at rule left step made one out kernel by found none here took =
     record {
-      made = effect key out;
-      is = ap (option_map (effect key)) here;
-      leads = rw (
+      made = made out;
+      is = by.is out here;
+      leads = by.leads out (world_of log (record old { kernel = kernel; begun = others_than key old.begun ++ record { made = one.made; at = Some at; left = left out } ∷ [] })) (rw (
         found_in log old.begun key,
         found,
         none,
         took,
-        map-append (begun_in log) (others_than key old.begun) (record { made = one.made; at = Some at } ∷ []),
+        map-append (begun_in log) (others_than key old.begun) (record { made = one.made; at = Some at; left = left out } ∷ []),
         here,
         without_in log old.begun key,
-      ) refl;
-      lines = sym (append-nil (take old.next log));
-      next = refl;
+      ) refl);
+      lines = rw (by.silent out) (sym (append-nil (take old.next log)));
+      next = sym by.next;
     }
 
-out_advances : (log : List Event) (old new : Place) (key at : ℕ) (one : BegunCall) (out : Option Outcome) → find_of old.begun key ≡ Some one → outcome_in (slice_get log at) ≡ out
-    → effected old key at (Some one) out ≡ Some new → Advance log old (move.Effect key at) new
-out_advances log old new key at one None found here is = absurd cc
-out_advances log old new key at one (Some out) found here is =
-    elim one.at as (λ o. one.at ≡ o → (if is_some o then None else affected old key at one.made (takes old.kernel one.made out)) ≡ Some new → Advance log old (move.Effect key at) new) [
+out_advances : (log : List Event) (old new : Place) (key at : ℕ) (rule : Kernel → Made → Outcome → Option Kernel) (left : Outcome → ℕ) (step : Move) (made : Outcome → Step) (one : BegunCall) (out : Option Outcome) → IsEffect log old key at rule left step made
+    → find_of old.begun key ≡ Some one → outcome_in (slice_get log at) ≡ out → effected rule left old key at (Some one) out ≡ Some new → Advance log old step new
+out_advances log old new key at rule left step made one None by found here is = absurd cc
+out_advances log old new key at rule left step made one (Some out) by found here is =
+    elim one.at as (λ o. one.at ≡ o → (if is_some o then None else affected old key at one.made (left out) (rule old.kernel one.made out)) ≡ Some new → Advance log old step new) [
       | Some n ↦ λ e h. absurd cc
       | None ↦ λ e h.
-          elim (takes old.kernel one.made out) as (λ k. takes old.kernel one.made out ≡ k → affected old key at one.made k ≡ Some new → Advance log old (move.Effect key at) new) [
+          elim (rule old.kernel one.made out) as (λ k. rule old.kernel one.made out ≡ k → affected old key at one.made (left out) k ≡ Some new → Advance log old step new) [
             | None ↦ λ took i. absurd cc
             | Some kernel ↦ λ took i.
-                let same : (record old { kernel = kernel; begun = others_than key old.begun ++ record { made = one.made; at = Some at } ∷ [] }) ≡ new = cc in
-                subst (λ (p : Place). Advance log old (move.Effect key at) p) same (effect_advances log old key at one out kernel found e here took)
+                let same : (record old { kernel = kernel; begun = others_than key old.begun ++ record { made = one.made; at = Some at; left = left out } ∷ [] }) ≡ new = cc in
+                subst (λ (p : Place). Advance log old step p) same (effect_advances log old key at rule left step made one out kernel by found e here took)
           ] refl h
     ] refl is
 
-call_advances : (log : List Event) (old new : Place) (key at : ℕ) (one : Option BegunCall) → find_of old.begun key ≡ one → effected old key at one (outcome_in (slice_get log at)) ≡ Some new
-    → Advance log old (move.Effect key at) new
-call_advances log old new key at None found is = absurd cc
-call_advances log old new key at (Some one) found is = out_advances log old new key at one (outcome_in (slice_get log at)) found refl is
+call_advances : (log : List Event) (old new : Place) (key at : ℕ) (rule : Kernel → Made → Outcome → Option Kernel) (left : Outcome → ℕ) (step : Move) (made : Outcome → Step) (one : Option BegunCall) → IsEffect log old key at rule left step made
+    → find_of old.begun key ≡ one → effected rule left old key at one (outcome_in (slice_get log at)) ≡ Some new → Advance log old step new
+call_advances log old new key at rule left step made None by found is = absurd cc
+call_advances log old new key at rule left step made (Some one) by found is = out_advances log old new key at rule left step made one (outcome_in (slice_get log at)) by found refl is
 
 -- a step by a rule of the kernel, of which no line speaks
 rule_advances : (log : List Event) (old new : Place) (step : Move) (made : Step) (rule : Option Kernel) → step_of log old.next step ≡ Some made → next_after old.next step ≡ old.next → line_of made ≡ None
@@ -213,15 +221,69 @@ protect_in : (log : List Event) (old : Place) (key page : ℕ) (after : World) �
     → protect_of (world_of log old) (begun_of (world_of log old).begun key) page ≡ Some after
 protect_in log old key page after h = ap (λ o. protect_of (world_of log old) o page) (found_in log old.begun key) ∙ protect_found log old page after (find_of old.begun key) h
 
+-- a read takes its next message in a world as at its place
+read_advances : (log : List Event) (old : Place) (key at : ℕ) (one : BegunCall) (out : Outcome) (kernel : Kernel) → find_of old.begun key ≡ Some one → one.at ≡ Some at
+    → outcome_in (slice_get log at) ≡ Some out → takes_next old.kernel one.made one.left out ≡ Some kernel
+    → Advance log old (move.Reads key at) (record old { kernel = kernel; begun = others_than key old.begun ++ record { made = one.made; at = Some at; left = one.left - 1 } ∷ [] })
+read_advances log old key at one out kernel found with here took =
+    record {
+      made = read_takes key;
+      is = refl;
+      leads = rw (
+        found_in log old.begun key,
+        found,
+        with,
+        here,
+        took,
+        map-append (begun_in log) (others_than key old.begun) (record { made = one.made; at = Some at; left = one.left - 1 } ∷ []),
+        here,
+        without_in log old.begun key,
+      ) refl;
+      lines = sym (append-nil (take old.next log));
+      next = refl;
+    }
+
+next_advances : (log : List Event) (old new : Place) (key at : ℕ) (one : Option BegunCall) (out : Option Outcome) → find_of old.begun key ≡ one → outcome_in (slice_get log at) ≡ out
+    → next_taken old key at one out ≡ Some new → Advance log old (move.Reads key at) new
+next_advances log old new key at None out found here is = absurd cc
+next_advances log old new key at (Some one) None found here is = absurd cc
+next_advances log old new key at (Some one) (Some out) found here is =
+    elim (is_with one.at at) as (λ b. is_with one.at at ≡ b → (if b then affected old key at one.made (one.left - 1) (takes_next old.kernel one.made one.left out) else None) ≡ Some new
+    → Advance log old (move.Reads key at) new) [
+      | false ↦ λ with h. absurd cc
+      | true ↦ λ with h.
+          elim (takes_next old.kernel one.made one.left out) as (λ k. takes_next old.kernel one.made one.left out ≡ k → affected old key at one.made (one.left - 1) k ≡ Some new
+          → Advance log old (move.Reads key at) new) [
+            | None ↦ λ took i. absurd cc
+            | Some kernel ↦ λ took i.
+                let same : (record old { kernel = kernel; begun = others_than key old.begun ++ record { made = one.made; at = Some at; left = one.left - 1 } ∷ [] }) ≡ new = cc in
+                subst (λ (p : Place). Advance log old (move.Reads key at) p) same (read_advances log old key at one out kernel found (with_at one.at at with) here took)
+          ] refl h
+    ] refl is
+  where
+    with_at : (o : Option ℕ) (at : ℕ) → is_with o at ≡ true → o ≡ Some at
+    with_at None at h = absurd cc
+    with_at (Some n) at h = ap (λ m. Some m) (eqb-true n at h)
+
 advances : (log : List Event) (old new : Place) (step : Move) → moved log old step ≡ Some new → Advance log old step new
 unfolding moved_by
 advances log old new move.Line is = line_advances log old new (slice_get log old.next) refl is
-advances log old new (move.Effect key at) is = call_advances log old new key at (find_of old.begun key) refl is
+advances log old new (move.Effect key at) is =
+    call_advances log old new key at takes none_left (move.Effect key at) (effect key) (find_of old.begun key)
+    (record { is = λ out here. ap (option_map (effect key)) here; leads = λ out after h. h; silent = λ out. refl; next = refl }) refl is
+advances log old new (move.Refuses key at) is =
+    call_advances log old new key at refuses none_left (move.Refuses key at) (refusal key) (find_of old.begun key)
+    (record { is = λ out here. ap (option_map (refusal key)) here; leads = λ out after h. h; silent = λ out. refl; next = refl }) refl is
+advances log old new (move.Starts key at) is =
+    call_advances log old new key at starts all_left (move.Starts key at) (read_starts key) (find_of old.begun key)
+    (record { is = λ out here. ap (option_map (read_starts key)) here; leads = λ out after h. h; silent = λ out. refl; next = refl }) refl is
+advances log old new (move.Reads key at) is = next_advances log old new key at (find_of old.begun key) (outcome_in (slice_get log at)) refl refl is
 advances log old new (move.Sees thread object page flags) is =
     rule_advances log old new (move.Sees thread object page flags) (thread_sees thread object page flags) (sees old.kernel thread object page flags) refl refl refl (λ after h. h) is
 advances log old new (move.Queues thread) is = rule_advances log old new (move.Queues thread) (thread_queues thread) (queues old.kernel thread) refl refl refl (λ after h. h) is
 advances log old new (move.Tells key) is = rule_advances log old new (move.Tells key) (call_tells key) (tells old.kernel key) refl refl refl (λ after h. h) is
 advances log old new (move.Clears key) is = rule_advances log old new (move.Clears key) (call_clears key) (clears old.kernel key) refl refl refl (λ after h. h) is
+advances log old new (move.Drops object page) is = rule_advances log old new (move.Drops object page) (page_drops object page) (drops old.kernel object page) refl refl refl (λ after h. h) is
 advances log old new (move.Protects key page) is =
     rule_advances log old new (move.Protects key page) (call_protects key page) (protected_by old.kernel (find_of old.begun key) page) refl refl refl
     (protect_in log old key page) is

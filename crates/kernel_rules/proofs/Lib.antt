@@ -1,7 +1,7 @@
 pub mod Laws
-pub mod Layers
 pub mod Moved
 pub mod Owed
+pub mod PageRuns
 pub mod Places
 pub mod Replies
 pub mod Spaces

@@ -2,7 +2,7 @@
 use Rattle.std.proofs.Common.{◌≡◌, ◌∙◌, ℕ, Bool, Bor, true, false, List, [], ◌∷◌, ◌++◌, Option, Some, None, Result, Ok, Err, refl, sym, ap, subst, length}
 use Rattle.std.proofs.lemmas.Option.{slice_get-map, slice_get_past, slice_get_read}
 use Rattle.std.specs.Slice.{IsItemAt}
-use Rattle.std.specs.Prelude.{◌&&◌, is_some, map, option_map, slice_get, IfOk}
+use Rattle.std.specs.Prelude.{◌==◌, ◌&&◌, is_some, map, option_map, slice_get, IfOk}
 use Rattle.mig_base.specs.declared.NoMemory.{NoMemory}
 use Rattle.uffd_log.specs.declared.line.Answer.{Answer}
 use Rattle.kernel_rules.specs.declared.certify.BegunCall.{BegunCall}
@@ -11,20 +11,20 @@ use Rattle.kernel_rules.specs.declared.kernel_table.KernelTable.{KernelTable}
 use Rattle.kernel_rules.specs.declared.run.Made.{Made}
 use Rattle.kernel_rules.specs.declared.run.Move.{Move}
 use Rattle.kernel_rules.specs.declared.run.Move.TheVariants as move
-use Rattle.kernel_rules.specs.Certified.{Place, begun_at, effected, ended_at, entered, find_of, is_ended_by, lined, moved, moved_by, others_than, outcome_in, protected_by, read_on, ruled, seen_at}
+use Rattle.kernel_rules.specs.Certified.{Place, begun_at, effected, ended_at, entered, find_of, is_ended_by, lined, moved, moved_by, next_taken, others_than, outcome_in, protected_by, read_on, ruled, seen_at}
 use Rattle.kernel_rules.specs.Faults.{leaves, queues, sees}
-use Rattle.kernel_rules.specs.MapCalls.{clears, may_return, returned, tells}
+use Rattle.kernel_rules.specs.MapCalls.{clears, drops, may_return, returned, tells}
 use Rattle.kernel_rules.specs.Held.{kernel_of}
 use Rattle.kernel_rules.specs.declared.run.Entry.{Entry}
-use Rattle.kernel_rules.specs.Runs.{Event, Outcome, event_of, takes}
+use Rattle.kernel_rules.specs.Runs.{Event, all_left, event_of, none_left, takes, refuses, starts}
 use Rattle.kernel_rules.specs.State.{Kernel, allowed}
 use Rattle.kernel_rules.specs.Worlds.{if_made, place_of}
 
 -- a call begins
-pub begun_made : (old new : WorldTable) (made : Made) → is_some (find_of old.begun.items made.key) ≡ false → new.begun.items ≡ old.begun.items ++ record { made = made; at = None } ∷ []
+pub begun_made : (old new : WorldTable) (made : Made) → is_some (find_of old.begun.items made.key) ≡ false → new.begun.items ≡ old.begun.items ++ record { made = made; at = None; left = 0 } ∷ []
     → new ≡ record old { begun = new.begun } → begun_at (place_of old) made ≡ Some (place_of new)
 begun_made old new made fresh added same =
-    let p : place_of new ≡ record (place_of old) { begun = old.begun.items ++ record { made = made; at = None } ∷ [] } = ap place_of same ∙ ap (λ b. record (place_of old) { begun = b }) added in
+    let p : place_of new ≡ record (place_of old) { begun = old.begun.items ++ record { made = made; at = None; left = 0 } ∷ [] } = ap place_of same ∙ ap (λ b. record (place_of old) { begun = b }) added in
     rw fresh (ap (λ (q : Place). Some q) (sym p))
 
 pub begun_twice : (table : WorldTable) (made : Made) → is_some (find_of table.begun.items made.key) ≡ true → begun_at (place_of table) made ≡ None
@@ -32,7 +32,7 @@ begun_twice table made found = rw found refl
 
 -- a call ends
 pub ended_made : (old new : WorldTable) (key : ℕ) (answer : Answer) (one : BegunCall) → find_of old.begun.items key ≡ Some one
-    → (may_return (kernel_of old.kernel) key && is_ended_by one.at answer old.next) ≡ true → kernel_of new.kernel ≡ returned (kernel_of old.kernel) key
+    → (may_return (kernel_of old.kernel) key && (is_ended_by one.at answer old.next && one.left == 0)) ≡ true → kernel_of new.kernel ≡ returned (kernel_of old.kernel) key
     → new.begun.items ≡ others_than key old.begun.items → new ≡ record old { kernel = new.kernel; begun = new.begun } → ended_at (place_of old) key answer (find_of old.begun.items key) ≡ Some (place_of new)
 ended_made old new key answer one found may over left same =
     let p : place_of new ≡ record (place_of old) { kernel = returned (kernel_of old.kernel) key; begun = others_than key old.begun.items } =
@@ -41,7 +41,7 @@ ended_made old new key answer one found may over left same =
     rw (found, may) (ap (λ (q : Place). Some q) (sym p))
 
 pub ended_unfit : (table : WorldTable) (key : ℕ) (answer : Answer) (one : BegunCall) → find_of table.begun.items key ≡ Some one
-    → (may_return (kernel_of table.kernel) key && is_ended_by one.at answer table.next) ≡ false → ended_at (place_of table) key answer (find_of table.begun.items key) ≡ None
+    → (may_return (kernel_of table.kernel) key && (is_ended_by one.at answer table.next && one.left == 0)) ≡ false → ended_at (place_of table) key answer (find_of table.begun.items key) ≡ None
 ended_unfit table key answer one found unfit = rw (found, unfit) refl
 
 -- the next line is read
@@ -52,31 +52,6 @@ line_made old mid one event made here is holds = rw (here, is, holds) refl
 pub line_refused : (old mid : WorldTable) (one : Option Event) (event : Event) (made : Bool) → one ≡ Some event → entered (place_of old) event ≡ if_made made (place_of mid) → made ≡ false
     → lined (place_of old) one ≡ None
 line_refused old mid one event made here is fails = rw (here, is, fails) refl
-
--- a call takes effect
-pub effect_made : (old new : WorldTable) (key at : ℕ) (one : BegunCall) (out : Outcome) (of_out : Option Outcome) (table : KernelTable) (took : Bool) → find_of old.begun.items key ≡ Some one → of_out ≡ Some out
-    → is_some one.at ≡ false → takes (kernel_of old.kernel) one.made out ≡ allowed took (kernel_of table) → took ≡ true
-    → new.begun.items ≡ others_than key old.begun.items ++ record { made = one.made; at = Some at } ∷ [] → new ≡ record old { kernel = table; begun = new.begun }
-    → effected (place_of old) key at (find_of old.begun.items key) of_out ≡ Some (place_of new)
-effect_made old new key at one out of_out table took found here none taken holds noted same =
-    let p : place_of new ≡ record (place_of old) { kernel = kernel_of table; begun = others_than key old.begun.items ++ record { made = one.made; at = Some at } ∷ [] } =
-    ap place_of same ∙ ap (λ b. record (place_of old) { kernel = kernel_of table; begun = b }) noted in
-    rw (found, here, none, taken, holds) (ap (λ (q : Place). Some q) (sym p))
-
-pub effect_refused : (old : WorldTable) (key at : ℕ) (one : BegunCall) (out : Outcome) (of_out : Option Outcome) (table : KernelTable) (took : Bool) → find_of old.begun.items key ≡ Some one → of_out ≡ Some out
-    → is_some one.at ≡ false → takes (kernel_of old.kernel) one.made out ≡ allowed took (kernel_of table) → took ≡ false → effected (place_of old) key at (find_of old.begun.items key) of_out ≡ None
-effect_refused old key at one out of_out table took found here none taken fails = rw (found, here, none, taken, fails) refl
-
-pub effect_twice : (old : WorldTable) (key at : ℕ) (one : BegunCall) (out : Outcome) (of_out : Option Outcome) → find_of old.begun.items key ≡ Some one → of_out ≡ Some out → is_some one.at ≡ true
-    → effected (place_of old) key at (find_of old.begun.items key) of_out ≡ None
-effect_twice old key at one out of_out found here some = rw (found, here, some) refl
-
-pub effect_nowhere : (old : WorldTable) (key at : ℕ) (one : Option BegunCall) (of_out : Option Outcome) → of_out ≡ None → effected (place_of old) key at one of_out ≡ None
-effect_nowhere old key at None of_out fails = refl
-effect_nowhere old key at (Some one) of_out fails = rw fails refl
-
-pub effect_unbegun : (old : WorldTable) (key at : ℕ) (of_out : Option Outcome) → find_of old.begun.items key ≡ None → effected (place_of old) key at (find_of old.begun.items key) of_out ≡ None
-effect_unbegun old key at of_out fails = rw fails refl
 
 -- a step by a rule of the kernel
 pub rule_made : (old : WorldTable) (table : KernelTable) (rule : Option Kernel) (made : Bool) → rule ≡ allowed made (kernel_of table)
@@ -101,9 +76,24 @@ unfolding moved_by
 line_moved seen place step is = rw is refl
 
 pub effect_moved : (seen : Option Event) (place : Place) (step : Move) (key at : ℕ) → step ≡ move.Effect key at
-    → moved_by seen place step ≡ effected place key at (find_of place.begun key) (outcome_in seen)
+    → moved_by seen place step ≡ effected takes none_left place key at (find_of place.begun key) (outcome_in seen)
 unfolding moved_by
 effect_moved seen place step key at is = rw is refl
+
+pub refuses_moved : (seen : Option Event) (place : Place) (step : Move) (key at : ℕ) → step ≡ move.Refuses key at
+    → moved_by seen place step ≡ effected refuses none_left place key at (find_of place.begun key) (outcome_in seen)
+unfolding moved_by
+refuses_moved seen place step key at is = rw is refl
+
+pub starts_moved : (seen : Option Event) (place : Place) (step : Move) (key at : ℕ) → step ≡ move.Starts key at
+    → moved_by seen place step ≡ effected starts all_left place key at (find_of place.begun key) (outcome_in seen)
+unfolding moved_by
+starts_moved seen place step key at is = rw is refl
+
+pub reads_moved : (seen : Option Event) (place : Place) (step : Move) (key at : ℕ) → step ≡ move.Reads key at
+    → moved_by seen place step ≡ next_taken place key at (find_of place.begun key) (outcome_in seen)
+unfolding moved_by
+reads_moved seen place step key at is = rw is refl
 
 pub sees_moved : (seen : Option Event) (place : Place) (step : Move) (thread object page flags : ℕ) → step ≡ move.Sees thread object page flags
     → moved_by seen place step ≡ ruled place (sees place.kernel thread object page flags)
@@ -125,6 +115,10 @@ tells_moved seen place step key is = rw is refl
 pub clears_moved : (seen : Option Event) (place : Place) (step : Move) (key : ℕ) → step ≡ move.Clears key → moved_by seen place step ≡ ruled place (clears place.kernel key)
 unfolding moved_by
 clears_moved seen place step key is = rw is refl
+
+pub drops_moved : (seen : Option Event) (place : Place) (step : Move) (object page : ℕ) → step ≡ move.Drops object page → moved_by seen place step ≡ ruled place (drops place.kernel object page)
+unfolding moved_by
+drops_moved seen place step object page is = rw is refl
 
 pub protects_moved : (seen : Option Event) (place : Place) (step : Move) (key page : ℕ) → step ≡ move.Protects key page
     → moved_by seen place step ≡ ruled place (protected_by place.kernel (find_of place.begun key) page)

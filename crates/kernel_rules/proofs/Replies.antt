@@ -9,22 +9,21 @@ use Rattle.uffd_log.specs.declared.line.Answer.{Answer}
 use Rattle.uffd_log.specs.declared.line.Answer.TheVariants.{Opened, Done}
 use Rattle.kernel_rules.specs.declared.difference.Difference.TheVariants as differs
 use Rattle.kernel_rules.specs.declared.fault.Fault.{Fault}
+use Rattle.kernel_rules.specs.declared.filling.Filling.{Filling}
+use Rattle.kernel_rules.specs.Tests.{passes}
 use Rattle.kernel_rules.specs.declared.known.Page.{Page}
 use Rattle.kernel_rules.specs.declared.object.Object.{Object}
 use Rattle.kernel_rules.specs.declared.object.Registration.{Registration}
 use Rattle.kernel_rules.specs.declared.kernel_table.KernelTable.{KernelTable}
 use Rattle.kernel_rules.specs.Faults.{faults_over, left_unanswered, sleeps_in, sleeps_at, woken}
 use Rattle.kernel_rules.specs.Held.{kernel_of}
-use Rattle.kernel_rules.specs.Ioctls.{bytes_or_none, closed, end_ranges, is_changing, is_part, is_right, is_watching, kept_pages, may_be_put, opened, pages_set, protected_in, protects_missing, put_halted, put_in_part, refused_while_changing, unregistered, unregistered_in, with_put, without_object_of, without_protected}
+use Rattle.kernel_rules.specs.Ioctls.{bytes_or_none, closed, end_ranges, is_changing, is_part, is_right, is_watching, kept_pages, filled, filled_in_part, opened, pages_set, protected_in, protects_missing, put_halted, refused_while_changing, unregistered, unregistered_in, without_object_of, without_protected}
 use Rattle.kernel_rules.specs.Pages.{protected_page}
 use Rattle.kernel_rules.specs.State.{Kernel, allowed, each_page, is_enabled, is_range, is_within, noted_if, pages_changed, with_object}
 
-pub opened_is : (kernel after : Kernel) (space flags : ℕ) (answer : Answer) (on : Descriptor) (bit : Bool) → answer ≡ Opened on → is_some (kernel.objects on.object) ≡ false → is_within flags 0x80801 ≡ true → bit ≡ is_one flags 11
-    → after ≡ with_object kernel on.object (record { space = space; waits = not bit; features = None; puts = false }) → opened kernel space flags answer ≡ Some after
-opened_is kernel after space flags answer on bit is fresh known bit_is after_is = rw (is, fresh, known, after_is, bit_is) refl
-
-pub opened_twice : (kernel : Kernel) (space flags : ℕ) (answer : Answer) (on : Descriptor) → answer ≡ Opened on → is_some (kernel.objects on.object) ≡ true → opened kernel space flags answer ≡ None
-opened_twice kernel space flags answer on is taken = rw (is, taken) refl
+pub opened_is : (kernel after : Kernel) (space program flags : ℕ) (answer : Answer) (on : Descriptor) (bit : Bool) → answer ≡ Opened on → is_some (kernel.objects on.object) ≡ false → is_within flags 0x80801 ≡ true → bit ≡ is_one flags 11
+    → after ≡ with_object kernel on.object (record { space = space; program = program; waits = not bit; features = None; puts = false }) → opened kernel space program flags answer ≡ Some after
+opened_is kernel after space program flags answer on bit is fresh known bit_is after_is = rw (is, fresh, known, after_is, bit_is) refl
 
 pub unregistered_is : (kernel mid after : Kernel) (name : ℕ) (object : Object) (start len : ℕ) (answer : Answer) → answer ≡ Done → is_enabled object ≡ true → is_range start len ≡ true
     → mid ≡ unregistered_in kernel name object (start / PAGE_SIZE) (len / PAGE_SIZE) → after ≡ woken mid (sleeps_in name (start / PAGE_SIZE) (len / PAGE_SIZE)) false
@@ -54,23 +53,23 @@ protected_woken kernel mid put dropped after key name object first count bits ea
     rw (after_is, dropped_is, put_is, mid_is, kept_is, each_is, bit_is, missing_is, eq-eqb bits 0 zero) refl
 
 -- a call that puts pages has put a part of them, or none
-pub part_halted : (kernel : Kernel) (key name : ℕ) (object : Object) (start len bits most : ℕ) (bytes : Option ℕ) (done : ℕ) → (is_part len bytes && is_right object start len bits most) ≡ true
+pub part_halted : (kernel : Kernel) (key name : ℕ) (object : Object) (start len : ℕ) (how : Filling) (bytes : Option ℕ) (done : ℕ) → (is_part len bytes && is_right object start len how.bits how.most) ≡ true
     → done ≡ bytes_or_none bytes
-    → put_halted kernel key name object start len bits most bytes ≡ put_in_part kernel key name object (start / PAGE_SIZE) (done / PAGE_SIZE) bits
-part_halted kernel key name object start len bits most bytes done part is = rw (part, is) refl
+    → put_halted kernel key name object start len how bytes ≡ filled_in_part kernel key name object (start / PAGE_SIZE) (done / PAGE_SIZE) how
+part_halted kernel key name object start len how bytes done part is = rw (part, is) refl
 
-pub none_halted : (kernel : Kernel) (key name : ℕ) (object : Object) (start len bits most : ℕ) (bytes : Option ℕ) → (is_part len bytes && is_right object start len bits most) ≡ false
-    → put_halted kernel key name object start len bits most bytes ≡ refused_while_changing kernel name
-none_halted kernel key name object start len bits most bytes fails = rw fails refl
+pub none_halted : (kernel : Kernel) (key name : ℕ) (object : Object) (start len : ℕ) (how : Filling) (bytes : Option ℕ) → (is_part len bytes && is_right object start len how.bits how.most) ≡ false
+    → put_halted kernel key name object start len how bytes ≡ refused_while_changing kernel name
+none_halted kernel key name object start len how bytes fails = rw fails refl
 
 -- all pages of a call are put
-pub all_put : (kernel after : Kernel) (name : ℕ) (object : Object) (start len bits most bytes : ℕ) → bytes ≡ len → is_right object start len bits most ≡ true → is_changing kernel name ≡ false
-    → may_be_put kernel object.space (start / PAGE_SIZE) (len / PAGE_SIZE) bits ≡ true
-    → after ≡ with_put kernel name object (start / PAGE_SIZE) (len / PAGE_SIZE) bits
+pub all_put : (kernel after : Kernel) (name : ℕ) (object : Object) (start len : ℕ) (how : Filling) (bytes : ℕ) → bytes ≡ len → is_right object start len how.bits how.most ≡ true → is_changing kernel name ≡ false
+    → each_page kernel object.space (start / PAGE_SIZE) (len / PAGE_SIZE) (passes how.test) ≡ true
+    → after ≡ filled kernel name object (start / PAGE_SIZE) (len / PAGE_SIZE) how
     → allowed
-    (bytes == len && is_right object start len bits most && not (is_changing kernel name) && may_be_put kernel object.space (start / PAGE_SIZE) (len / PAGE_SIZE) bits)
-    (with_put kernel name object (start / PAGE_SIZE) (len / PAGE_SIZE) bits) ≡ Some after
-all_put kernel after name object start len bits most bytes whole right calm may is = rw (eq-eqb bytes len whole, right, calm, may, is) refl
+    (bytes == len && is_right object start len how.bits how.most && not (is_changing kernel name) && each_page kernel object.space (start / PAGE_SIZE) (len / PAGE_SIZE) (passes how.test))
+    (filled kernel name object (start / PAGE_SIZE) (len / PAGE_SIZE) how) ≡ Some after
+all_put kernel after name object start len how bytes whole right calm may is = rw (eq-eqb bytes len whole, right, calm, may, is) refl
 
 -- no fault is left
 pub none_left : (faults : List Fault) → [] ≡ filter (λ (fault : Fault). not true) faults

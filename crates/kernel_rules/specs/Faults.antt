@@ -3,7 +3,7 @@ use Rattle.std.specs.Prelude.{ℕ, ◌==◌, ◌&&◌, ◌||◌, not, nat_lt, Bo
 use Rattle.std.specs.List.{list_any}
 use Rattle.mig_base.specs.Ranges.{in_range}
 use Rattle.kernel_rules.specs.declared.fault.Fault.{Fault}
-use Rattle.kernel_rules.specs.Pages.{is_missing, may_be_missing, is_of_protection, shown}
+use Rattle.kernel_rules.specs.Pages.{is_missing, is_of_minor, is_poisoned, may_be_missing, is_of_protection, shown}
 use Rattle.kernel_rules.specs.declared.difference.Difference.TheVariants.{FaultOfEachThread, FaultTakenAway, FaultOnItsWay, LeftByASignal}
 use Rattle.kernel_rules.specs.declared.known.Phase.{Phase}
 use Rattle.kernel_rules.specs.declared.known.Phase.TheVariants.{Seen, Unread, Asleep}
@@ -25,11 +25,12 @@ is_unread Unread = true
 is_unread Asleep = false
 
 -- whether an access with these flags has to wait at a page that is registered with the object: it may be missing, and is registered for
--- that; or it may be write-protected, and is registered for that
+-- that; it may not be mapped, which is a minor fault; or it may be write-protected. An access to a poisoned page is SIGBUS
 abbrev pub stops_at : ℕ → ℕ → Page → Bool
 stops_at object flags page =
-    page.object == object
+    page.object == object && not (is_poisoned page.presence)
     && (if is_of_protection flags then page.protect && page.guarded && not (is_missing page.presence)
+    else if is_of_minor flags then page.minor && may_be_missing page
     else page.missing && may_be_missing page)
 
 -- whether a thread still has to wait
@@ -45,9 +46,10 @@ fault_of (fault ∷ faults) thread = if fault.thread == thread then Some fault e
 abbrev pub waits : Kernel → ℕ → Bool
 waits kernel thread = is_some (fault_of kernel.faults thread)
 
--- whether flags are those of a fault that is judged: UFFD_PAGEFAULT_FLAG_WRITE is bit 0, UFFD_PAGEFAULT_FLAG_WP bit 1
+-- whether flags are those of a fault: UFFD_PAGEFAULT_FLAG_WRITE is bit 0, UFFD_PAGEFAULT_FLAG_WP bit 1, which only a write gets, and
+-- UFFD_PAGEFAULT_FLAG_MINOR bit 2, which comes without WP
 abbrev pub are_flags : ℕ → Bool
-are_flags flags = nat_lt flags 4
+are_flags flags = nat_lt flags 6 && not (flags == 2)
 
 -- a thread finds that it has to wait at a page
 abbrev pub sees : Kernel → ℕ → ℕ → ℕ → ℕ → Option Kernel

@@ -1,6 +1,6 @@
 -- The calls of a userfault object: which answers a kernel may give, and what follows from each. ioctl_userfaultfd(2).
 -- A rule has the kernel, the call and its answer; None says that no kernel answers so.
-use Rattle.std.specs.Prelude.{ℕ, zero, suc, ◌+◌, ◌-◌, ◌/◌, ◌%◌, ◌^◌, ◌==◌, ◌&&◌, ◌||◌, not, nat_le, nat_lt, Bool, true, false, if◌then◌else◌, Option, Some, None, is_some, List, [], ◌∷◌, ◌++◌, filter, map}
+use Rattle.std.specs.Prelude.{ℕ, zero, suc, ◌+◌, ◌-◌, ◌/◌, ◌%◌, ◌^◌, ◌==◌, ◌&&◌, ◌||◌, not, nat_le, nat_lt, Bool, true, false, if◌then◌else◌, Option, Some, None, is_some, List, [], ◌∷◌, ◌++◌, filter}
 use Rattle.std.specs.List.{list_any}
 use Rattle.mig_base.specs.declared.TheConstants.{PAGE_SIZE}
 use Rattle.mig_base.specs.Bits.{is_one}
@@ -11,7 +11,7 @@ use Rattle.uffd_log.specs.declared.line.Answer.{Answer}
 use Rattle.uffd_log.specs.declared.line.Answer.TheVariants.{Opened, Done, Value, Features, Failed}
 use Rattle.uffd_log.specs.declared.errno.Errno.{Errno}
 use Rattle.uffd_log.specs.declared.errno.Errno.TheVariants.{Eperm, Enoent, Esrch, Eagain, Enomem, Efault, Ebusy, Eexist, Einval, Other}
-use Rattle.kernel_rules.specs.Pages.{is_missing, is_present, may_be_missing, may_be_there, mode_of, registered_page, without_object, put_page, protected_page, perhaps_protected, settled}
+use Rattle.kernel_rules.specs.Pages.{cleared_page, found_there, is_missing, is_present, may_be_there, may_stop, mode_of, registered_page, without_object, protected_page, perhaps_protected, settled}
 use Rattle.kernel_rules.specs.declared.calling.Protecting.{Protecting}
 use Rattle.kernel_rules.specs.declared.calling.Span.{Span}
 use Rattle.kernel_rules.specs.declared.calling.Told.{Told}
@@ -20,6 +20,11 @@ use Rattle.kernel_rules.specs.declared.difference.Difference.TheVariants as diff
 use Rattle.kernel_rules.specs.declared.known.Presence.{Presence}
 use Rattle.kernel_rules.specs.declared.known.Presence.TheVariants.{Unknown, Missing, Present}
 use Rattle.kernel_rules.specs.declared.known.Page.{Page}
+use Rattle.kernel_rules.specs.declared.change.Change.TheVariants as change
+use Rattle.kernel_rules.specs.declared.filling.Filling.{Filling}
+use Rattle.kernel_rules.specs.declared.page_test.PageTest.TheVariants as test
+use Rattle.kernel_rules.specs.Changes.{changed}
+use Rattle.kernel_rules.specs.Tests.{passes}
 use Rattle.kernel_rules.specs.declared.object.Object.{Object}
 use Rattle.kernel_rules.specs.declared.object.Registration.{Registration}
 use Rattle.kernel_rules.specs.declared.run.Run.{Run}
@@ -35,12 +40,12 @@ is_open_error Other = true
 is_open_error _ = false
 
 -- userfaultfd(2): a new object, with or without O_NONBLOCK, bit 11; O_CLOEXEC is bit 19, UFFD_USER_MODE_ONLY bit 0
-abbrev pub opened : Kernel → ℕ → ℕ → Answer → Option Kernel
-opened kernel space flags (Opened on) =
+abbrev pub opened : Kernel → ℕ → ℕ → ℕ → Answer → Option Kernel
+opened kernel space program flags (Opened on) =
     allowed (not (is_some (kernel.objects on.object)) && is_within flags 0x80801)
-    (with_object kernel on.object (record { space = space; waits = not (is_one flags 11); features = None; puts = false }))
-opened kernel space flags (Failed errno bytes) = allowed (is_open_error errno) kernel
-opened kernel space flags _ = None
+    (with_object kernel on.object (record { space = space; program = program; waits = not (is_one flags 11); features = None; puts = false }))
+opened kernel space program flags (Failed errno bytes) = allowed (is_open_error errno) kernel
+opened kernel space program flags _ = None
 
 -- UFFDIO_API
 
@@ -69,17 +74,17 @@ shaken kernel name object api features _ = None
 -- UFFDIO_REGISTER and UFFDIO_UNREGISTER
 
 -- the kernel with a range registered, in pages
-abbrev pub with_registered : Kernel → ℕ → ℕ → ℕ → ℕ → Mode → Kernel
-with_registered kernel name space first count mode =
-    record kernel { pages = set_pages kernel.pages space first count (λ page. registered_page name mode (kernel.pages space page)) }
+abbrev pub with_registered : Kernel → ℕ → ℕ → ℕ → ℕ → Mode → Bool → Kernel
+with_registered kernel name space first count mode minor =
+    record kernel { pages = set_pages kernel.pages space first count (λ page. registered_page name mode minor (kernel.pages space page)) }
 
 -- the kernel once an object has registered a range, for good
 abbrev pub with_range : Kernel → ℕ → ℕ → ℕ → Kernel
 with_range kernel name first count = record kernel { ranges = kernel.ranges ++ record { object = name; first = first; count = count } ∷ [] }
 
--- whether a mode can be asked for: bits 0 to 2, of which this project judges the first two
+-- whether a mode can be asked for: bits 0 to 2
 abbrev pub is_mode : ℕ → Bool
-is_mode bits = nat_lt 0 bits && nat_lt bits 4
+is_mode bits = nat_lt 0 bits && nat_lt bits 8
 
 -- the errors of UFFDIO_REGISTER, for what a log does not show: what is mapped, and other objects. Before the handshake it is EINVAL
 abbrev pub is_register_error : Object → Errno → Bool
@@ -97,24 +102,26 @@ is_unregister_error object Enomem = is_enabled object
 is_unregister_error object Efault = is_enabled object
 is_unregister_error object _ = false
 
--- whether the pages of a range have UFFDIO_WAKE, bit 2, and UFFDIO_COPY, bit 3, as a kernel says of each that it registers
-abbrev pub has_calls : ℕ → Bool
-has_calls ioctls = is_one ioctls 2 && is_one ioctls 3
+-- whether the pages of a range that is registered in a mode have these calls: UFFDIO_WAKE, bit 2, and UFFDIO_COPY, bit 3; UFFDIO_WRITEPROTECT,
+-- bit 6, where the mode is of bit 1, and UFFDIO_CONTINUE, bit 7, where it is of bit 2, and only there
+abbrev pub has_calls : ℕ → ℕ → Bool
+has_calls bits ioctls = is_one ioctls 2 && is_one ioctls 3 && ioctls / 64 % 4 == bits / 2
 
 -- UFFDIO_REGISTER of a range that no other object has
 abbrev pub registered : Kernel → ℕ → Object → ℕ → ℕ → ℕ → Answer → Option Kernel
 registered kernel name object start len bits (Value ioctls) =
     allowed
-    (has_calls ioctls && is_enabled object && is_mode bits && is_range start len
+    (has_calls bits ioctls && is_enabled object && is_mode bits && is_range start len
     && not (some_page kernel object.space (start / PAGE_SIZE) (len / PAGE_SIZE) (λ page. not (page.object == name))))
     (noted_if (not (asked_for object 2 && asked_for object 3 && asked_for object 6)) differs.RegisterWithoutEvents
-    (with_range (with_registered kernel name object.space (start / PAGE_SIZE) (len / PAGE_SIZE) (mode_of bits)) name (start / PAGE_SIZE) (len / PAGE_SIZE)))
+    (with_range (with_registered kernel name object.space (start / PAGE_SIZE) (len / PAGE_SIZE) (mode_of bits) (is_one bits 2)) name (start / PAGE_SIZE) (len / PAGE_SIZE)))
 registered kernel name object start len bits (Failed errno bytes) = allowed (is_register_error object errno) kernel
 registered kernel name object start len bits _ = None
 
--- whether a page is owed where its registration ends: its object puts pages, and this one, which it watches for missing faults, is missing
+-- whether a page is owed where its registration ends: its object puts pages, and this one, which it watches for missing faults, is missing.
+-- One that is watched for minor faults too may be there though it is not mapped
 abbrev pub is_owed : ℕ → Object → Page → Bool
-is_owed name object page = page.object == name && object.puts && page.missing && is_missing page.presence
+is_owed name object page = page.object == name && object.puts && page.missing && not page.minor && is_missing page.presence
 
 -- the pages of a range that are owed, each with its space
 unfoldable pub owed_in : Kernel → ℕ → Object → ℕ → ℕ → List (ℕ × ℕ)
@@ -186,14 +193,29 @@ may_be_changing kernel name = list_any (λ (one : Told). one.object == name) ker
 abbrev pub refused_while_changing : Kernel → ℕ → Option Kernel
 refused_while_changing kernel name = allowed (may_be_changing kernel name) (noted_if (not (is_changing kernel name)) differs.ChangingLonger kernel)
 
--- UFFDIO_COPY and UFFDIO_ZEROPAGE
+-- UFFDIO_COPY, UFFDIO_ZEROPAGE, UFFDIO_CONTINUE and UFFDIO_POISON, which fill pages: `bits` is the word of modes, `most` the greatest one, `test`
+-- what a page has to be, `change` what becomes of it, `cached` says whether a page of the page cache stops the call, and `marked` whether the
+-- marker of a page does that is protected though it is missing
 
--- the kernel once `count` pages from `first` on are put, by a call with this word of modes: DONTWAKE is bit 0, and WP, which only
--- UFFDIO_COPY has, bit 1
+-- the first three, by a word of modes: WP is bit 1, which UFFDIO_ZEROPAGE has not. A marker stops that one, but in shared memory
+abbrev pub putting : ℕ → ℕ → Bool → Filling
+putting bits most cached =
+    record { bits = bits; most = most; test = test.MayBePut (is_one bits 1); change = change.Put (is_one bits 1); cached = cached; marked = most == 1 }
+
+-- UFFDIO_POISON, of pages where nothing is: UFFDIO_COPY and UFFDIO_CONTINUE take the place of a poison, and in shared memory UFFDIO_ZEROPAGE
+abbrev pub poisoning : ℕ → Filling
+poisoning bits = record { bits = bits; most = 1; test = test.Empty; change = change.Poison; cached = false; marked = true }
+
+-- the kernel once `count` pages from `first` on are filled: DONTWAKE is bit 0
+abbrev pub filled : Kernel → ℕ → Object → ℕ → ℕ → Filling → Kernel
+filled kernel name object first count how =
+    let pages = set_pages kernel.pages object.space first count (λ page. changed how.change (kernel.pages object.space page)) in
+    let put = with_object (record kernel { pages = pages }) name (record object { puts = true }) in
+    if is_one how.bits 0 then put else woken put (sleeps_in name first count) true
+
+-- the same of pages that are put
 abbrev pub with_put : Kernel → ℕ → Object → ℕ → ℕ → ℕ → Kernel
-with_put kernel name object first count bits =
-    let put = with_object (pages_changed kernel object.space first count (put_page (is_one bits 1))) name (record object { puts = true }) in
-    if is_one bits 0 then put else woken put (sleeps_in name first count) true
+with_put kernel name object first count bits = filled kernel name object first count (putting bits 3 true)
 
 -- whether the arguments are right: `most` is the greatest word of modes
 abbrev pub is_right : Object → ℕ → ℕ → ℕ → ℕ → Bool
@@ -201,32 +223,33 @@ is_right object start len bits most = is_enabled object && is_range start len &&
 
 -- whether `count` pages may be put from `first` on
 abbrev pub may_be_put : Kernel → ℕ → ℕ → ℕ → ℕ → Bool
-may_be_put kernel space first count bits =
-    each_page kernel space first count (λ page. may_be_missing page && (not (is_one bits 1) || page.protect))
+may_be_put kernel space first count bits = each_page kernel space first count (passes (test.MayBePut (is_one bits 1)))
 
 -- the kernel with a call noted that stopped at a page: one that the log has put, or another
 abbrev pub stop_noted : Kernel → Bool → ℕ → Kernel
 stop_noted kernel put key = if put then record kernel { twice = kernel.twice ++ key ∷ [] } else record kernel { there_before = kernel.there_before ++ key ∷ [] }
 
--- the kernel once a call has stopped at a page that is there
-abbrev pub stopped_at : Kernel → ℕ → ℕ → ℕ → Option Kernel
-stopped_at kernel key space page = stopped_by (kernel.pages space page) where
+-- the kernel once a call has stopped at a page. What stops it where none is was there before
+abbrev pub stopped_at : Kernel → ℕ → ℕ → ℕ → Filling → Option Kernel
+stopped_at kernel key space page how = stopped_by (kernel.pages space page) where
   stopped_by : Option Page → Option Kernel
   stopped_by None = None
   stopped_by (Some found) =
-      allowed (may_be_there found)
-      (pages_changed (stop_noted kernel found.put key) space page 1 (λ p. record p { presence = Present }))
+      allowed (may_be_there found || may_stop how.cached how.marked found)
+      (pages_changed (stop_noted kernel (found.put && may_be_there found) key) space page 1 (found_there how.cached how.marked))
 
 -- a call halts at a page: it is there; or nothing is known to be, and what no line shows has stopped the call: its source cannot be read,
 -- the address space is changing, or memory has run out
-abbrev pub halted_at : Kernel → ℕ → ℕ → ℕ → Option Kernel
-halted_at kernel key space page = if page_is (λ p. is_present p.presence) (kernel.pages space page) then stopped_at kernel key space page
+abbrev pub halted_at : Kernel → ℕ → ℕ → ℕ → Filling → Option Kernel
+halted_at kernel key space page how = if page_is (λ p. is_present p.presence) (kernel.pages space page) then stopped_at kernel key space page how
     else allowed (page_is (λ p. true) (kernel.pages space page)) kernel
 
--- what a rule says once the first pages are put, and the call halts at the next one
-abbrev pub put_in_part : Kernel → ℕ → ℕ → Object → ℕ → ℕ → ℕ → Option Kernel
-put_in_part kernel key name object first done bits =
-    if may_be_put kernel object.space first done bits then halted_at (with_put kernel name object first done bits) key object.space (first + done) else None
+-- what a rule says once the first pages are filled, and the call halts at the next one
+abbrev pub filled_in_part : Kernel → ℕ → ℕ → Object → ℕ → ℕ → Filling → Option Kernel
+filled_in_part kernel key name object first done how =
+    if each_page kernel object.space first done (passes how.test)
+    then halted_at (filled kernel name object first done how) key object.space (first + done) how
+    else None
 
 -- whether an error says that a call has put part of its pages
 abbrev pub is_part : ℕ → Option ℕ → Bool
@@ -243,9 +266,9 @@ abbrev pub is_negative : Option ℕ → Bool
 is_negative bytes = not (is_some bytes)
 
 -- a call that found its first page there
-abbrev pub put_stopped : Kernel → ℕ → Object → ℕ → ℕ → ℕ → ℕ → Option Kernel
-put_stopped kernel key object start len bits most =
-    if is_right object start len bits most then stopped_at kernel key object.space (start / PAGE_SIZE) else None
+abbrev pub put_stopped : Kernel → ℕ → Object → ℕ → ℕ → Filling → Option Kernel
+put_stopped kernel key object start len how =
+    if is_right object start len how.bits how.most then stopped_at kernel key object.space (start / PAGE_SIZE) how else None
 
 -- a call over pages that are not registered, or over several areas
 abbrev pub put_outside : Kernel → ℕ → Object → ℕ → ℕ → ℕ → ℕ → Option Kernel
@@ -263,31 +286,36 @@ is_put_wrong kernel object start len bits most =
     || is_one bits 1 && some_page kernel object.space (start / PAGE_SIZE) (len / PAGE_SIZE) (λ page. not page.protect)
 
 -- a call that has put part of its pages, or none since the address space is changing
-abbrev pub put_halted : Kernel → ℕ → ℕ → Object → ℕ → ℕ → ℕ → ℕ → Option ℕ → Option Kernel
-put_halted kernel key name object start len bits most bytes =
-    if is_part len bytes && is_right object start len bits most
-    then put_in_part kernel key name object (start / PAGE_SIZE) (bytes_or_none bytes / PAGE_SIZE) bits
+abbrev pub put_halted : Kernel → ℕ → ℕ → Object → ℕ → ℕ → Filling → Option ℕ → Option Kernel
+put_halted kernel key name object start len how bytes =
+    if is_part len bytes && is_right object start len how.bits how.most
+    then filled_in_part kernel key name object (start / PAGE_SIZE) (bytes_or_none bytes / PAGE_SIZE) how
     else refused_while_changing kernel name
 
 -- why such a call may fail
-abbrev pub put_failed : Kernel → ℕ → ℕ → Object → ℕ → ℕ → ℕ → ℕ → Option ℕ → Errno → Option Kernel
-put_failed kernel key name object start len bits most bytes Eagain = put_halted kernel key name object start len bits most bytes
-put_failed kernel key name object start len bits most bytes Eexist = if is_negative bytes then put_stopped kernel key object start len bits most else None
-put_failed kernel key name object start len bits most bytes Enoent = if is_negative bytes then put_outside kernel key object start len bits most else None
-put_failed kernel key name object start len bits most bytes Einval = allowed (is_put_wrong kernel object start len bits most) kernel
-put_failed kernel key name object start len bits most bytes Efault = allowed (is_enabled object) kernel
-put_failed kernel key name object start len bits most bytes Enomem = allowed (is_enabled object) kernel
-put_failed kernel key name object start len bits most bytes Esrch = allowed (is_enabled object) kernel
-put_failed kernel key name object start len bits most bytes _ = None
+abbrev pub put_failed : Kernel → ℕ → ℕ → Object → ℕ → ℕ → Filling → Option ℕ → Errno → Option Kernel
+put_failed kernel key name object start len how bytes Eagain = put_halted kernel key name object start len how bytes
+put_failed kernel key name object start len how bytes Eexist = if is_negative bytes then put_stopped kernel key object start len how else None
+put_failed kernel key name object start len how bytes Enoent = if is_negative bytes then put_outside kernel key object start len how.bits how.most else None
+put_failed kernel key name object start len how bytes Einval = allowed (is_put_wrong kernel object start len how.bits how.most) kernel
+put_failed kernel key name object start len how bytes Efault = allowed (is_enabled object) kernel
+put_failed kernel key name object start len how bytes Enomem = allowed (is_enabled object) kernel
+put_failed kernel key name object start len how bytes Esrch = allowed (is_enabled object) kernel
+put_failed kernel key name object start len how bytes _ = None
 
--- UFFDIO_COPY with `most` 3 and UFFDIO_ZEROPAGE with `most` 1, to the address `start` of the object's space
-abbrev pub put_with : Kernel → ℕ → ℕ → Object → ℕ → ℕ → ℕ → ℕ → Answer → Option Kernel
-put_with kernel key name object start len bits most (Value bytes) =
+-- a call that fills pages, from the address `start` of the object's space on
+abbrev pub filled_with : Kernel → ℕ → ℕ → Object → ℕ → ℕ → Filling → Answer → Option Kernel
+filled_with kernel key name object start len how (Value bytes) =
     allowed
-    (bytes == len && is_right object start len bits most && not (is_changing kernel name) && may_be_put kernel object.space (start / PAGE_SIZE) (len / PAGE_SIZE) bits)
-    (with_put kernel name object (start / PAGE_SIZE) (len / PAGE_SIZE) bits)
-put_with kernel key name object start len bits most (Failed errno bytes) = put_failed kernel key name object start len bits most bytes errno
-put_with kernel key name object start len bits most _ = None
+    (bytes == len && is_right object start len how.bits how.most && not (is_changing kernel name)
+    && each_page kernel object.space (start / PAGE_SIZE) (len / PAGE_SIZE) (passes how.test))
+    (filled kernel name object (start / PAGE_SIZE) (len / PAGE_SIZE) how)
+filled_with kernel key name object start len how (Failed errno bytes) = put_failed kernel key name object start len how bytes errno
+filled_with kernel key name object start len how _ = None
+
+-- UFFDIO_COPY with `most` 3 and UFFDIO_ZEROPAGE with `most` 1
+abbrev pub put_with : Kernel → ℕ → ℕ → Object → ℕ → ℕ → ℕ → ℕ → Answer → Option Kernel
+put_with kernel key name object start len bits most answer = filled_with kernel key name object start len (putting bits most true) answer
 
 -- whether an answer is EINVAL
 abbrev pub is_invalid : Answer → Bool
@@ -300,6 +328,89 @@ copied kernel key name object to from len bits answer =
     if is_invalid answer && may_be_outside from len then Some kernel
     else if nat_lt (2 ^ 64) (from + len) then None
     else put_with kernel key name object to len bits 3 answer
+
+-- UFFDIO_CONTINUE maps pages of the page cache: without one it is EFAULT. In memory that is not shared it is EINVAL
+abbrev pub continued : Kernel → ℕ → ℕ → Object → ℕ → ℕ → ℕ → Answer → Option Kernel
+continued kernel key name object start len bits answer =
+    if is_invalid answer && some_page kernel object.space (start / PAGE_SIZE) (len / PAGE_SIZE) (passes test.NotMinor) then Some kernel
+    else filled_with kernel key name object start len (putting bits 3 false) answer
+
+-- UFFDIO_MOVE: UFFDIO_MOVE_MODE_DONTWAKE is bit 0, UFFDIO_MOVE_MODE_ALLOW_SRC_HOLES bit 1
+
+-- whether the arguments are right. Ranges that overlap are not followed
+abbrev pub is_move_right : Object → ℕ → ℕ → ℕ → ℕ → Bool
+is_move_right object to from len bits = is_right object to len bits 3 && is_range from len && (nat_le (to + len) from || nat_le (from + len) to)
+
+-- whether `count` pages may be moved: where they go, which the object watches, nothing is; where they come from a page is, unless holes are
+-- allowed, if the log knows of it
+abbrev pub may_be_moved : Kernel → ℕ → Object → ℕ → ℕ → ℕ → ℕ → Bool
+may_be_moved kernel name object to from count bits =
+    each_page kernel object.space to count (passes (test.Of name)) && each_page kernel object.space to count (passes test.Empty)
+    && not (some_page kernel object.space from count (passes (test.Unmovable (is_one bits 1))))
+
+-- what becomes of the pages where others come; one from a hole leaves its own missing
+abbrev pub moving : ℕ → Filling
+moving bits = record { bits = bits; most = 3; test = test.Empty; change = if is_one bits 1 then change.PerhapsPut else change.Put false; cached = false; marked = true }
+
+-- the kernel once `count` pages are moved: where they came from they are missing
+abbrev pub with_moved : Kernel → ℕ → Object → ℕ → ℕ → ℕ → ℕ → Kernel
+with_moved kernel name object to from count bits =
+    pages_changed (filled kernel name object to count (moving bits)) object.space from count cleared_page
+
+-- what a rule says once the first pages are moved, and the call halts at the next one
+abbrev pub moved_in_part : Kernel → ℕ → ℕ → Object → ℕ → ℕ → ℕ → ℕ → Option Kernel
+moved_in_part kernel key name object to from done bits =
+    if may_be_moved kernel name object to from done bits
+    then halted_at (with_moved kernel name object to from done bits) key object.space (to + done) (moving bits)
+    else None
+
+-- a call that has moved part of its pages, or none since the address space is changing
+abbrev pub move_halted : Kernel → ℕ → ℕ → Object → ℕ → ℕ → ℕ → ℕ → Option ℕ → Option Kernel
+move_halted kernel key name object to from len bits bytes =
+    if is_part len bytes && is_move_right object to from len bits
+    then moved_in_part kernel key name object (to / PAGE_SIZE) (from / PAGE_SIZE) (bytes_or_none bytes / PAGE_SIZE) bits
+    else refused_while_changing kernel name
+
+-- a call that found nothing at its first source, or a range that is not mapped
+abbrev pub move_outside : Kernel → Object → ℕ → ℕ → ℕ → ℕ → Option Kernel
+move_outside kernel object to from len bits =
+    allowed
+    (is_move_right object to from len bits
+    && (not (is_one bits 1) && not (page_is (λ p. is_present p.presence) (kernel.pages object.space (from / PAGE_SIZE)))
+    || not (each_page kernel object.space (to / PAGE_SIZE) (len / PAGE_SIZE) (passes test.Any))
+    || not (each_page kernel object.space (from / PAGE_SIZE) (len / PAGE_SIZE) (passes test.Any))))
+    kernel
+
+-- a call that found something at its first target
+abbrev pub move_stopped : Kernel → ℕ → Object → ℕ → ℕ → ℕ → ℕ → Option Kernel
+move_stopped kernel key object to from len bits =
+    if is_move_right object to from len bits then stopped_at kernel key object.space (to / PAGE_SIZE) (moving bits) else None
+
+-- why UFFDIO_MOVE may fail: EBUSY of pages that others share, and EINVAL of areas between which no page moves, also say what no line shows
+abbrev pub move_failed : Kernel → ℕ → ℕ → Object → ℕ → ℕ → ℕ → ℕ → Option ℕ → Errno → Option Kernel
+move_failed kernel key name object to from len bits bytes Eagain = move_halted kernel key name object to from len bits bytes
+move_failed kernel key name object to from len bits bytes Eexist = if is_negative bytes then move_stopped kernel key object to from len bits else None
+move_failed kernel key name object to from len bits bytes Enoent = if is_negative bytes then move_outside kernel object to from len bits else None
+move_failed kernel key name object to from len bits bytes Einval = Some kernel
+move_failed kernel key name object to from len bits bytes Ebusy = allowed (is_enabled object) kernel
+move_failed kernel key name object to from len bits bytes Efault = allowed (is_enabled object) kernel
+move_failed kernel key name object to from len bits bytes Enomem = allowed (is_enabled object) kernel
+move_failed kernel key name object to from len bits bytes Esrch = allowed (is_enabled object) kernel
+move_failed kernel key name object to from len bits bytes _ = None
+
+-- all its pages are moved
+abbrev pub all_moved : Kernel → ℕ → Object → ℕ → ℕ → ℕ → ℕ → ℕ → Option Kernel
+all_moved kernel name object to from len bits bytes =
+    allowed
+    (bytes == len && is_move_right object to from len bits && not (is_changing kernel name)
+    && may_be_moved kernel name object (to / PAGE_SIZE) (from / PAGE_SIZE) (len / PAGE_SIZE) bits)
+    (with_moved kernel name object (to / PAGE_SIZE) (from / PAGE_SIZE) (len / PAGE_SIZE) bits)
+
+-- UFFDIO_MOVE
+abbrev pub moved_with : Kernel → ℕ → ℕ → Object → ℕ → ℕ → ℕ → ℕ → Answer → Option Kernel
+moved_with kernel key name object to from len bits (Value bytes) = all_moved kernel name object to from len bits bytes
+moved_with kernel key name object to from len bits (Failed errno bytes) = move_failed kernel key name object to from len bits bytes errno
+moved_with kernel key name object to from len bits _ = None
 
 -- UFFDIO_WRITEPROTECT: UFFDIO_WRITEPROTECT_MODE_WP is bit 0, UFFDIO_WRITEPROTECT_MODE_DONTWAKE bit 1
 

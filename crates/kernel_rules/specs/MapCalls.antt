@@ -9,21 +9,20 @@ use Rattle.mig_base.specs.Tests.{is_empty}
 use Rattle.uffd_log.specs.declared.line.Answer.{Answer}
 use Rattle.uffd_log.specs.declared.line.Answer.TheVariants.{Done, Value, Failed}
 use Rattle.uffd_log.specs.declared.errno.Errno.{Errno}
-use Rattle.uffd_log.specs.declared.errno.Errno.TheVariants.{Eperm, Eagain, Enomem, Ebusy, Eexist, Einval, Other}
+use Rattle.uffd_log.specs.declared.errno.Errno.TheVariants.{Eperm, Enoent, Esrch, Eagain, Enomem, Ebusy, Eexist, Einval, Other}
 use Rattle.uffd_log.specs.declared.call.Message.{Message}
 use Rattle.uffd_log.specs.declared.call.Message.TheVariants.{Fork, Remap, Unmap}
-use Rattle.kernel_rules.specs.Pages.{cleared_page, known_as, perhaps_cleared}
+use Rattle.kernel_rules.specs.Pages.{cleared_page, freed_page, is_freed, is_lacking, known_as, perhaps_cleared, populated_page}
 use Rattle.kernel_rules.specs.declared.difference.Difference.TheVariants.{MessagesOfMremap}
-use Rattle.kernel_rules.specs.declared.known.Presence.TheVariants.{Unknown, Missing}
+use Rattle.kernel_rules.specs.declared.known.Presence.TheVariants.{Missing}
 use Rattle.kernel_rules.specs.declared.known.Page.{Page}
-use Rattle.kernel_rules.specs.declared.known.Presence.{Presence}
 use Rattle.kernel_rules.specs.declared.object.Object.{Object}
 use Rattle.kernel_rules.specs.declared.object.Registration.{Registration}
 use Rattle.kernel_rules.specs.declared.calling.Span.{Span}
 use Rattle.kernel_rules.specs.declared.calling.Told.{Told}
 use Rattle.kernel_rules.specs.declared.calling.Untold.{Untold}
 use Rattle.kernel_rules.specs.Ioctls.{is_own, pages_set, span_of, with_range}
-use Rattle.kernel_rules.specs.State.{Kernel, set_pages, some_page, pages_changed, allowed, asked_for, noted_if}
+use Rattle.kernel_rules.specs.State.{Kernel, set_pages, page_is, some_page, pages_changed, allowed, asked_for, noted_if, of_object}
 
 -- Whom a call tells
 
@@ -143,7 +142,7 @@ moved_page kernel (Some page) = if is_told kernel 2 page.object then Some page e
 
 -- a registered page without its bytes
 abbrev pub emptied : Page → Page
-emptied page = record page { presence = known_as page.missing Missing; guarded = false; put = false }
+emptied page = record page { presence = known_as page.missing Missing; guarded = false; put = false; freed = false }
 
 -- a page by which a range grows: registered as its last page is, and missing
 abbrev pub grown_page : Option Page → Option Page
@@ -230,27 +229,27 @@ mremapped kernel key space addr old_len new_len flags _ = None
 
 -- madvise(2)
 
--- MADV_DONTNEED, MADV_REMOVE and MADV_DONTNEED_LOCKED clear pages; after MADV_FREE a page may be cleared at any time
+-- MADV_DONTNEED, MADV_FREE, MADV_REMOVE and MADV_DONTNEED_LOCKED clear pages, or let the kernel take them back
 abbrev pub is_clearing : ℕ → Bool
-is_clearing advice = advice == 4 || advice == 9 || advice == 24
+is_clearing advice = advice == 4 || advice == 8 || advice == 9 || advice == 24
 
--- the kernel once the pages of a range are cleared, or may be
-abbrev pub cleared_to : Kernel → ℕ → ℕ → ℕ → Presence → Kernel
-cleared_to kernel space first count presence = pages_changed kernel space first count (cleared_page presence)
+-- the kernel once the pages of a range are cleared, or may be taken back
+abbrev pub all_cleared : Kernel → ℕ → ℕ → ℕ → Bool → Kernel
+all_cleared kernel space first count frees = pages_changed kernel space first count (if frees then freed_page else cleared_page)
 
 -- the kernel with a call that clears a range once it has told of it
-abbrev pub with_clearing : Kernel → ℕ → ℕ → ℕ → ℕ → Kernel
-with_clearing kernel key space first count =
+abbrev pub with_clearing : Kernel → ℕ → ℕ → ℕ → ℕ → Bool → Kernel
+with_clearing kernel key space first count frees =
     record (with_calling kernel key) {
-      untold = kernel.untold ++ record { key = key; space = space; first = first; end = first + count } ∷ [];
-      clears = kernel.clears ++ record { key = key; space = space; first = first; end = first + count } ∷ [];
+      untold = kernel.untold ++ record { key = key; space = space; first = first; end = first + count; frees = frees } ∷ [];
+      clears = kernel.clears ++ record { key = key; space = space; first = first; end = first + count; frees = frees } ∷ [];
     }
 
 -- the kernel once a call has begun to clear a range: where an object gets a REMOVE, a kernel clears it only after that was read
-abbrev pub clearing : Kernel → ℕ → ℕ → ℕ → ℕ → Kernel
-clearing kernel key space first count =
+abbrev pub clearing : Kernel → ℕ → ℕ → ℕ → ℕ → Bool → Kernel
+clearing kernel key space first count frees =
     let told = told_in kernel 3 space first (first + count) in
-    if is_empty told then cleared_to kernel space first count Missing else with_clearing (with_all_told kernel key told) key space first count
+    if is_empty told then all_cleared kernel space first count frees else with_clearing (with_all_told kernel key told) key space first count frees
 
 -- whether a call may have cleared pages: ENOMEM says that a part of its range is not mapped
 abbrev pub has_cleared : Answer → Bool
@@ -260,27 +259,50 @@ has_cleared _ = false
 
 -- whether a call may have cleared the first pages of its range: EINVAL says that it has met pages that are locked, or of another kind
 abbrev pub has_stopped : ℕ → Answer → Bool
-has_stopped advice (Failed Einval bytes) = is_clearing advice || advice == 8
+has_stopped advice (Failed Einval bytes) = is_clearing advice
 has_stopped advice _ = false
 
--- the kernel once a call may have cleared pages of a range, and has stopped before its last one
-abbrev pub cleared_in_part : Kernel → ℕ → ℕ → ℕ → Kernel
-cleared_in_part kernel space first count = pages_changed kernel space first (count - 1) perhaps_cleared
+-- the kernel once a call may have cleared pages of a range, or freed them, MADV_FREE, and has stopped before its last one
+abbrev pub cleared_in_part : Kernel → ℕ → ℕ → ℕ → ℕ → Kernel
+cleared_in_part kernel space first count advice = pages_changed kernel space first (count - 1) (if advice == 8 then freed_page else perhaps_cleared)
 
--- whether madvise(2) knows an advice, and what it says of a call that succeeds with another one
+-- the errors of madvise(2)
+abbrev pub is_madvise_error : Errno → Bool
+is_madvise_error Enoent = false
+is_madvise_error Esrch = false
+is_madvise_error Eexist = false
+is_madvise_error _ = true
+
+-- whether madvise(2) may answer so: it does not succeed with an advice that it does not know
 abbrev pub is_advice : ℕ → Answer → Bool
 is_advice advice Done = nat_lt advice 104
-is_advice advice _ = true
+is_advice advice (Failed errno bytes) = is_madvise_error errno
+is_advice advice _ = false
 
--- madvise(2), of the advices that clear pages
+-- MADV_POPULATE_READ and MADV_POPULATE_WRITE touch each page of their range, and wait for one that is missing as any access does
+abbrev pub is_populating : ℕ → Answer → Bool
+is_populating advice Done = advice == 22 || advice == 23
+is_populating advice _ = false
+
+-- the kernel once each page of a range was there when it was touched, and for MADV_POPULATE_WRITE could be written
+abbrev pub populated : Kernel → ℕ → ℕ → ℕ → Bool → Option Kernel
+populated kernel space first count write =
+    allowed (not (some_page kernel space first count is_lacking)) (pages_changed kernel space first count (populated_page write))
+
+-- madvise(2), of the advices that clear pages, let the kernel take them back, MADV_FREE, or touch them
 abbrev pub madvised : Kernel → ℕ → ℕ → ℕ → ℕ → ℕ → Answer → Option Kernel
 madvised kernel key space addr len advice answer =
     if not (is_advice advice answer) then None
-    else if has_stopped advice answer then Some (cleared_in_part kernel space (addr / PAGE_SIZE) (pages_of len))
+    else if is_populating advice answer then populated kernel space (addr / PAGE_SIZE) (pages_of len) (advice == 23)
+    else if has_stopped advice answer then Some (cleared_in_part kernel space (addr / PAGE_SIZE) (pages_of len) advice)
     else if not (has_cleared answer) then Some kernel
-    else if is_clearing advice then Some (clearing kernel key space (addr / PAGE_SIZE) (pages_of len))
-    else if advice == 8 then Some (cleared_to kernel space (addr / PAGE_SIZE) (pages_of len) Unknown)
+    else if is_clearing advice then Some (clearing kernel key space (addr / PAGE_SIZE) (pages_of len) (advice == 8))
     else Some kernel
+
+-- the kernel takes back a page of an object for which MADV_FREE was called
+abbrev pub drops : Kernel → ℕ → ℕ → Option Kernel
+drops kernel name page = of_object (kernel.objects name) (λ object.
+    allowed (page_is (is_freed name) (kernel.pages object.space page)) (pages_changed kernel object.space page 1 cleared_page))
 
 -- fork(2)
 
@@ -330,7 +352,7 @@ spans_without spans key = filter (λ (one : Span). not (one.key == key)) spans
 abbrev pub cleared_by : Kernel → ℕ → Option Span → Option Kernel
 cleared_by kernel key None = None
 cleared_by kernel key (Some span) =
-    allowed (is_told_all kernel key) (cleared_to (record kernel { clears = spans_without kernel.clears key }) span.space span.first (span.end - span.first) Missing)
+    allowed (is_told_all kernel key) (all_cleared (record kernel { clears = spans_without kernel.clears key }) span.space span.first (span.end - span.first) span.frees)
 
 -- a call clears its pages, once its events are read
 abbrev pub clears : Kernel → ℕ → Option Kernel

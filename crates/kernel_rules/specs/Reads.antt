@@ -1,5 +1,5 @@
 -- read(2) and poll(2) of a userfault object. userfaultfd(2).
-use Rattle.std.specs.Prelude.{ℕ, ◌+◌, ◌-◌, ◌/◌, ◌%◌, ◌==◌, ◌&&◌, ◌||◌, not, nat_le, nat_lt, Bool, true, false, if◌then◌else◌, Option, Some, None, is_some, List, [], ◌∷◌, ◌++◌, count_by, filter, length}
+use Rattle.std.specs.Prelude.{ℕ, ◌/◌, ◌%◌, ◌==◌, ◌&&◌, ◌||◌, not, nat_le, nat_lt, Bool, true, false, if◌then◌else◌, Option, Some, None, is_some, List, [], ◌∷◌, ◌++◌, count_by, filter, length}
 use Rattle.std.specs.List.{list_any}
 use Rattle.mig_base.specs.declared.TheConstants.{PAGE_SIZE}
 use Rattle.mig_base.specs.Tests.{is_empty}
@@ -29,10 +29,16 @@ first_unread [] name = None
 first_unread (fault ∷ faults) name = if fault.object == name && is_unread fault.phase then Some fault else first_unread faults name
 
 -- whether a fault has the fields of its message. Without UFFD_FEATURE_EXACT_ADDRESS, bit 11, the address is that of the page. The thread is
--- named where UFFD_FEATURE_THREAD_ID, bit 8, was asked for; a thread of a number from 2^31 on is one that the log does not name
+-- named where UFFD_FEATURE_THREAD_ID, bit 8, was asked for, and none has the number 0; one of a number from 2^31 on is one that the log does
+-- not name
 abbrev pub is_message : Object → Fault → ℕ → ℕ → ℕ → Bool
 is_message object fault addr flags thread =
-    fault.page == addr / PAGE_SIZE && (asked_for object 11 || addr % PAGE_SIZE == 0) && fault.flags == flags && (if asked_for object 8 then fault.thread == thread else thread == 0)
+    fault.page == addr / PAGE_SIZE && (asked_for object 11 || addr % PAGE_SIZE == 0) && fault.flags == flags && (if asked_for object 8 then fault.thread == thread && nat_lt 0 thread else thread == 0)
+
+-- whether a message names the thread that reads it, where that is known. A thread that reads has left its fault, whose message went with it
+abbrev pub is_own_fault : Option ℕ → ℕ → Bool
+is_own_fault None thread = false
+is_own_fault (Some reader) thread = reader == thread
 
 -- the list with the fault of a thread read: it is to be answered if the thread still has to wait
 abbrev pub fault_read : Kernel → Object → ℕ → Fault → List Fault
@@ -137,9 +143,9 @@ event_taken kernel event (Some found) =
 -- One message, and several
 
 -- the kernel once the first unread fault of an object was read, if the message is that fault's
-abbrev pub fault_taken : Kernel → ℕ → ℕ → Object → ℕ → ℕ → ℕ → Option Kernel
-fault_taken kernel key name object addr flags thread = of_fault (first_unread kernel.faults name) (λ fault.
-    allowed (is_message object fault addr flags thread) (record kernel { faults = fault_read kernel object key fault }))
+abbrev pub fault_taken : Kernel → ℕ → Option ℕ → ℕ → Object → ℕ → ℕ → ℕ → Option Kernel
+fault_taken kernel key reader name object addr flags thread = of_fault (first_unread kernel.faults name) (λ fault.
+    allowed (is_message object fault addr flags thread && not (is_own_fault reader thread)) (record kernel { faults = fault_read kernel object key fault }))
 
 -- whether a fault of the object is unread
 abbrev pub has_unread_fault : Kernel → ℕ → Bool
@@ -156,10 +162,15 @@ is_fault _ = false
 
 -- the kernel once call `key` has read a message, and will read `later` page faults after it: these may have been queued once an event before
 -- them was read, and other page faults are read before events
-abbrev pub message_taken : Kernel → ℕ → ℕ → Object → Message → ℕ → Option Kernel
-message_taken kernel key name object (message.Fault addr flags thread) later = fault_taken kernel key name object addr flags thread
-message_taken kernel key name object event later =
+abbrev pub message_taken : Kernel → ℕ → Option ℕ → ℕ → Object → Message → ℕ → Option Kernel
+message_taken kernel key reader name object (message.Fault addr flags thread) later = fault_taken kernel key reader name object addr flags thread
+message_taken kernel key reader name object event later =
     if nat_le (unread_faults kernel.faults name) later then event_taken kernel event (teller kernel name event kernel.calls false) else None
+
+-- the kernel once the first of these messages was read
+abbrev pub first_taken : Kernel → ℕ → Option ℕ → ℕ → Object → List Message → Option Kernel
+first_taken kernel key reader name object [] = None
+first_taken kernel key reader name object (event ∷ events) = message_taken kernel key reader name object event (count_by is_fault events)
 
 -- one rule after another, if the first allows its step
 abbrev pub then_taken : Option Kernel → (Kernel → Option Kernel) → Option Kernel
@@ -167,10 +178,10 @@ then_taken None rule = None
 then_taken (Some kernel) rule = rule kernel
 
 -- the kernel once these messages were read in turn
-abbrev pub messages_taken : Kernel → ℕ → ℕ → Object → List Message → Option Kernel
-messages_taken kernel key name object [] = Some kernel
-messages_taken kernel key name object (event ∷ events) =
-    then_taken (message_taken kernel key name object event (count_by is_fault events)) (λ after. messages_taken after key name object events)
+abbrev pub messages_taken : Kernel → ℕ → Option ℕ → ℕ → Object → List Message → Option Kernel
+messages_taken kernel key reader name object [] = Some kernel
+messages_taken kernel key reader name object (event ∷ events) =
+    then_taken (message_taken kernel key reader name object event (count_by is_fault events)) (λ after. messages_taken after key reader name object events)
 
 -- read(2)
 
@@ -200,12 +211,17 @@ read_failed kernel name object room Eintr = is_enabled object
 read_failed kernel name object room Efault = is_enabled object
 read_failed kernel name object room _ = false
 
+-- whether read(2) may say that it returns these messages
+abbrev pub may_return_messages : Object → Option ℕ → List Message → Answer → Bool
+may_return_messages object room messages (Value count) = is_enabled object && count == length messages && nat_lt 0 count && has_room_for count room
+may_return_messages object room messages _ = false
+
 -- read(2): it returns messages, or none and an error that the state allows
-abbrev pub read : Kernel → ℕ → ℕ → Object → Option ℕ → List Message → Answer → Option Kernel
-read kernel key name object room messages (Value count) =
-    if is_enabled object && count == length messages && nat_lt 0 count && has_room_for count room then messages_taken kernel key name object messages else None
-read kernel key name object room messages (Failed errno bytes) = allowed (is_empty messages && read_failed kernel name object room errno) kernel
-read kernel key name object room messages _ = None
+abbrev pub read : Kernel → ℕ → Option ℕ → ℕ → Object → Option ℕ → List Message → Answer → Option Kernel
+read kernel key reader name object room messages (Value count) =
+    if may_return_messages object room messages (Value count) then messages_taken kernel key reader name object messages else None
+read kernel key reader name object room messages (Failed errno bytes) = allowed (is_empty messages && read_failed kernel name object room errno) kernel
+read kernel key reader name object room messages _ = None
 
 -- whether poll(2) may have found these events: POLLIN, 1, POLLERR, 8, or neither; POLLNVAL, 0x20, of a descriptor that another thread closes
 abbrev pub may_poll : Kernel → ℕ → Object → ℕ → Bool

@@ -1,14 +1,14 @@
 -- What a run of a log is: the lines of the log in their order, with steps put in between. A call takes effect once, between the line where
 -- it begins and the one where it ends; so a call that ended before another began took effect first. The rules of a kernel allow each step
 -- with exactly the answer of the log.
-use Rattle.std.specs.Prelude.{◌≡◌, ℕ, ◌==◌, ◌&&◌, ◌||◌, Contains, not, Bool, true, false, if◌then◌else◌, Option, Some, None, is_some, List, [], ◌∷◌, ◌++◌, filter, filter_map}
+use Rattle.std.specs.Prelude.{◌≡◌, ℕ, ◌-◌, ◌==◌, ◌&&◌, ◌||◌, Contains, drop, length, nat_lt, not, Bool, true, false, if◌then◌else◌, Option, Some, None, is_some, List, [], ◌∷◌, ◌++◌, filter, filter_map}
 use Rattle.uffd_log.specs.declared.call.Call.{Call}
 use Rattle.uffd_log.specs.declared.call.Call.TheVariants as call
 use Rattle.uffd_log.specs.declared.call.Message.{Message}
 use Rattle.uffd_log.specs.declared.line.Answer.{Answer}
 use Rattle.uffd_log.specs.declared.line.Answer.TheVariants.{Done, Failed, Interrupted}
 use Rattle.uffd_log.specs.declared.errno.Errno.{Errno}
-use Rattle.uffd_log.specs.declared.errno.Errno.TheVariants.{Eperm, Eintr, Eagain, Enomem, Efault, Ebusy, Eexist, Einval, Other}
+use Rattle.uffd_log.specs.declared.errno.Errno.TheVariants.{Esrch, Eintr, Eagain, Enomem, Efault, Ebusy, Einval, Other}
 use Rattle.mig_base.specs.Tests.{is_empty}
 use Rattle.kernel_rules.specs.declared.difference.Difference.{Difference}
 use Rattle.kernel_rules.specs.declared.object.Object.{Object}
@@ -18,11 +18,12 @@ use Rattle.kernel_rules.specs.declared.run.Entry.{Entry}
 use Rattle.kernel_rules.specs.declared.run.Entry.TheVariants as entry
 use Rattle.kernel_rules.specs.declared.run.Made.{Made}
 use Rattle.kernel_rules.specs.declared.run.Run.{Run}
-use Rattle.kernel_rules.specs.State.{Kernel, fresh_kernel, with_object, of_object, allowed}
+use Rattle.kernel_rules.specs.State.{Kernel, fresh_kernel, with_object, of_object, allowed, asked_for}
 use Rattle.kernel_rules.specs.Faults.{sees, queues, leaves, faults_over}
-use Rattle.kernel_rules.specs.Ioctls.{end_range, opened, shaken, registered, unregistered, waked, copied, put_with, protected_first, protected_with, scanned, closed}
-use Rattle.kernel_rules.specs.MapCalls.{forked, mmapped, munmapped, mremapped, madvised, tells, clears, may_return, returned}
-use Rattle.kernel_rules.specs.Reads.{read, polled}
+use Rattle.kernel_rules.specs.Ioctls.{end_range, opened, shaken, registered, unregistered, waked, continued, copied, filled_with, moved_with, poisoning, put_with, protected_first, protected_with, refused_while_changing, scanned, closed}
+use Rattle.kernel_rules.specs.Kinds.{is_filling}
+use Rattle.kernel_rules.specs.MapCalls.{forked, mmapped, munmapped, mremapped, madvised, tells, clears, drops, may_return, returned}
+use Rattle.kernel_rules.specs.Reads.{first_taken, may_return_messages, read, polled}
 
 -- The lines of a log that a judge reads
 
@@ -115,41 +116,75 @@ object_of (call.Mremap addr old_len new_len flags target) = None
 object_of (call.Madvise addr len advice) = None
 object_of call.Fork = None
 
--- a call on an open object takes effect with its outcome. UFFDIO_MOVE, UFFDIO_CONTINUE and UFFDIO_POISON are not judged
-unfoldable pub on_object : Kernel → ℕ → ℕ → Object → Bool → Outcome → Call → Option Kernel
-on_object kernel key name object last out (call.Api on api features) = shaken kernel name object api features out.answer
-on_object kernel key name object last out (call.Register on start len mode) = registered kernel name object start len mode out.answer
-on_object kernel key name object last out (call.Unregister on start len) = unregistered kernel name object start len out.answer
-on_object kernel key name object last out (call.Wake on start len) = waked kernel name object start len out.answer
-on_object kernel key name object last out (call.Copy on to from len mode) = copied kernel key name object to from len mode out.answer
-on_object kernel key name object last out (call.ZeroPage on start len mode) = put_with kernel key name object start len mode 1 out.answer
-on_object kernel key name object last out (call.WriteProtect on start len mode) = protected_with kernel key name object start len mode out.answer
-on_object kernel key name object last out (call.Read on room) = read kernel key name object room out.messages out.answer
-on_object kernel key name object last out (call.Poll on) = polled kernel name object out.answer
-on_object kernel key name object last out (call.NonBlock on set) = unblocked kernel name object set out.answer
-on_object kernel key name object last out (call.Dup on target) = duplicated kernel out.answer
-on_object kernel key name object last out (call.Close on) = close_taken kernel name object last out.answer
-on_object kernel key name object last out (call.Scan on start len) = scanned kernel object start len out.runs out.answer
-on_object kernel key name object last out _ = None
+-- whether a call is made by the program that opened the object, if the log has where it begins. Its memory is there as long as it makes calls
+abbrev pub is_at_home : Made → Object → Bool
+is_at_home made object = nat_lt 0 made.program && made.program == object.program
+
+-- whether an answer is ESRCH, which says that the memory of the object is gone
+abbrev pub is_gone : Answer → Bool
+is_gone (Failed Esrch bytes) = true
+is_gone _ = false
+
+-- the thread that makes a call, where page faults of the object name threads by the same numbers: by those of its own process
+abbrev pub reader_of : Made → Object → Option ℕ
+reader_of made object = if is_at_home made object && asked_for object 8 then Some made.thread else None
+
+-- a call on an open object takes effect with its outcome
+unfoldable pub on_object : Kernel → Made → ℕ → Object → Outcome → Call → Option Kernel
+on_object kernel made name object out (call.Api on api features) = shaken kernel name object api features out.answer
+on_object kernel made name object out (call.Register on start len mode) = registered kernel name object start len mode out.answer
+on_object kernel made name object out (call.Unregister on start len) = unregistered kernel name object start len out.answer
+on_object kernel made name object out (call.Wake on start len) = waked kernel name object start len out.answer
+on_object kernel made name object out (call.Copy on to from len mode) = copied kernel made.key name object to from len mode out.answer
+on_object kernel made name object out (call.ZeroPage on start len mode) = put_with kernel made.key name object start len mode 1 out.answer
+on_object kernel made name object out (call.Continue on start len mode) = continued kernel made.key name object start len mode out.answer
+on_object kernel made name object out (call.Poison on start len mode) = filled_with kernel made.key name object start len (poisoning mode) out.answer
+on_object kernel made name object out (call.Move on to from len mode) = moved_with kernel made.key name object to from len mode out.answer
+on_object kernel made name object out (call.WriteProtect on start len mode) = protected_with kernel made.key name object start len mode out.answer
+on_object kernel made name object out (call.Read on room) = read kernel made.key (reader_of made object) name object room out.messages out.answer
+on_object kernel made name object out (call.Poll on) = polled kernel name object out.answer
+on_object kernel made name object out (call.NonBlock on set) = unblocked kernel name object set out.answer
+on_object kernel made name object out (call.Dup on target) = duplicated kernel out.answer
+on_object kernel made name object out (call.Close on) = close_taken kernel name object made.last out.answer
+on_object kernel made name object out (call.Scan on start len) = scanned kernel object start len out.runs out.answer
+on_object kernel made name object out _ = None
 
 -- the other calls, of an address space
-unfoldable pub on_space : Kernel → ℕ → ℕ → Outcome → Call → Option Kernel
-on_space kernel key space out (call.Open device flags) = opened kernel space flags out.answer
-on_space kernel key space out (call.Mmap addr len prot flags) = mmapped kernel key space addr len flags out.answer
-on_space kernel key space out (call.Munmap addr len) = munmapped kernel key space addr len out.answer
-on_space kernel key space out (call.Mremap addr old_len new_len flags target) = mremapped kernel key space addr old_len new_len flags out.answer
-on_space kernel key space out (call.Madvise addr len advice) = madvised kernel key space addr len advice out.answer
-on_space kernel key space out call.Fork = forked kernel key space out.answer
-on_space kernel key space out _ = None
+unfoldable pub on_space : Kernel → Made → Outcome → Call → Option Kernel
+on_space kernel made out (call.Open device flags) = opened kernel made.space made.program flags out.answer
+on_space kernel made out (call.Mmap addr len prot flags) = mmapped kernel made.key made.space addr len flags out.answer
+on_space kernel made out (call.Munmap addr len) = munmapped kernel made.key made.space addr len out.answer
+on_space kernel made out (call.Mremap addr old_len new_len flags target) = mremapped kernel made.key made.space addr old_len new_len flags out.answer
+on_space kernel made out (call.Madvise addr len advice) = madvised kernel made.key made.space addr len advice out.answer
+on_space kernel made out call.Fork = forked kernel made.key made.space out.answer
+on_space kernel made out _ = None
 
 -- the same, by the object that a call is on
 abbrev pub taken_by : Kernel → Made → Outcome → Option ℕ → Option Kernel
-taken_by kernel made out None = on_space kernel made.key made.space out made.call
-taken_by kernel made out (Some name) = of_object (kernel.objects name) (λ object. on_object kernel made.key name object made.last out made.call)
+taken_by kernel made out None = on_space kernel made out made.call
+taken_by kernel made out (Some name) = of_object (kernel.objects name) (λ object. if is_at_home made object && is_gone out.answer then None else on_object kernel made name object out made.call)
 
 -- a call of a log takes effect with its outcome; None where no kernel has it
 abbrev pub takes : Kernel → Made → Outcome → Option Kernel
 takes kernel made out = taken_by kernel made out (object_of made.call)
+
+-- whether an answer is EAGAIN
+abbrev pub is_again : Answer → Bool
+is_again (Failed Eagain bytes) = true
+is_again _ = false
+
+-- a call that fills pages is EAGAIN since the address space is changing, and has filled none, whatever its result field has: before Linux 6.15
+-- the kernel did not write that, so it is the program's own
+abbrev pub refuses : Kernel → Made → Outcome → Option Kernel
+refuses kernel made out = if is_again out.answer && fills made.call then refused_at (object_of made.call) else None where
+  fills : Call → Bool
+  fills (call.Copy on to from len mode) = true
+  fills (call.ZeroPage on start len mode) = true
+  fills other = is_filling other
+
+  refused_at : Option ℕ → Option Kernel
+  refused_at None = None
+  refused_at (Some name) = refused_while_changing kernel name
 
 -- a UFFDIO_WRITEPROTECT that is under way protects a page of its range, before the others; `over` says whether it has taken effect
 abbrev pub protects_first : Kernel → Made → Bool → ℕ → Option Kernel
@@ -159,23 +194,52 @@ protects_first kernel made false page = protects_of made.call where
   protects_of (call.WriteProtect on start len mode) = of_object (kernel.objects on.object) (λ object. protected_first kernel made.key on.object object start len mode page)
   protects_of _ = None
 
+-- a read begins to take its messages one after another: a kernel holds no lock between two of them
+abbrev pub starts : Kernel → Made → Outcome → Option Kernel
+starts kernel made out = starts_of made.call where
+  starts_of : Call → Option Kernel
+  starts_of (call.Read on room) = of_object (kernel.objects on.object) (λ object. allowed (may_return_messages object room out.messages out.answer) kernel)
+  starts_of _ = None
+
+-- such a read takes the first of the last `left` of its messages
+abbrev pub takes_next : Kernel → Made → ℕ → Outcome → Option Kernel
+takes_next kernel made left out = next_of made.call where
+  next_of : Call → Option Kernel
+  next_of (call.Read on room) =
+      of_object (kernel.objects on.object) (λ object.
+      first_taken kernel made.key (reader_of made object) on.object object (drop (length out.messages - left) out.messages))
+  next_of _ = None
+
+-- how many messages a call has left once it has taken effect at one time
+abbrev pub none_left : Outcome → ℕ
+none_left out = 0
+
+-- and once it has begun to take them
+abbrev pub all_left : Outcome → ℕ
+all_left out = length out.messages
+
 -- Runs
 
 -- a step of a run: the next line of the log; the effect of a call that has begun; and what no line shows
 pub data Step : Type 0 where
   line : Event → Step
   effect : ℕ → Outcome → Step
+  refusal : ℕ → Outcome → Step
   thread_sees : ℕ → ℕ → ℕ → ℕ → Step
   thread_queues : ℕ → Step
   thread_leaves : ℕ → Step
   call_tells : ℕ → Step
   call_clears : ℕ → Step
+  page_drops : ℕ → ℕ → Step
   call_protects : ℕ → ℕ → Step
+  read_starts : ℕ → Outcome → Step
+  read_takes : ℕ → Step
 
--- a call that has begun, with its outcome once it has taken effect
+-- a call that has begun, with its outcome once it has taken effect, and how many of its messages it has then still to take
 pub record Begun : Type 0 where
   pub made : Made
   pub out : Option Outcome
+  pub left : ℕ
 
 -- the kernel, and the calls that have begun and not ended
 pub record World : Type 0 where
@@ -200,17 +264,30 @@ abbrev pub world_with : World → Option Kernel → Option World
 world_with world None = None
 world_with world (Some kernel) = Some (record world { kernel = kernel })
 
--- a call takes effect, if it has begun and has not taken effect
-abbrev pub effect_of : World → Option Begun → ℕ → Outcome → Option World
-effect_of world None key out = None
-effect_of world (Some one) key out =
+-- a call takes effect by a rule, if it has begun and has not taken effect
+abbrev pub effect_by : (Kernel → Made → Outcome → Option Kernel) → (Outcome → ℕ) → World → Option Begun → ℕ → Outcome → Option World
+effect_by rule left world None key out = None
+effect_by rule left world (Some one) key out =
     if is_some one.out then None
-    else world_with (record world { begun = without_begun world.begun key ++ record one { out = Some out } ∷ [] }) (takes world.kernel one.made out)
+    else world_with (record world { begun = without_begun world.begun key ++ record one { out = Some out; left = left out } ∷ [] }) (rule world.kernel one.made out)
+
+-- a call takes effect
+abbrev pub effect_of : World → Option Begun → ℕ → Outcome → Option World
+effect_of world one key out = effect_by takes none_left world one key out
 
 -- a call that has begun protects a page
 abbrev pub protect_of : World → Option Begun → ℕ → Option World
 protect_of world None page = None
 protect_of world (Some one) page = world_with world (protects_first world.kernel one.made (is_some one.out) page)
+
+-- a read that has begun to take its messages takes the next
+abbrev pub next_of : World → Option Begun → ℕ → Option World
+next_of world None key = None
+next_of world (Some one) key = taken one.out where
+  taken : Option Outcome → Option World
+  taken None = None
+  taken (Some out) =
+      world_with (record world { begun = without_begun world.begun key ++ record one { left = one.left - 1 } ∷ [] }) (takes_next world.kernel one.made one.left out)
 
 -- whether a call has read nothing if it was interrupted
 abbrev pub is_still : Outcome → Bool
@@ -224,19 +301,24 @@ abbrev pub effect_at_end : Answer → Outcome → Option Outcome
 effect_at_end Interrupted out = None
 effect_at_end _ out = Some out
 
--- the step leads from a world to another. At its end a call has taken effect with the outcome of that line, and its events are read
+-- the step leads from a world to another. At its end a call has taken effect with the outcome of that line, and its events are read, and it
+-- has taken all its messages
 abbrev pub IsStep : World → Step → World → Type 0
-IsStep world (line (begins made)) after = (begun_of world.begun made.key ≡ None) × (after ≡ record world { begun = world.begun ++ record { made = made; out = None } ∷ [] })
+IsStep world (line (begins made)) after = (begun_of world.begun made.key ≡ None) × (after ≡ record world { begun = world.begun ++ record { made = made; out = None; left = 0 } ∷ [] })
 IsStep world (line (ends key out)) after =
-    (one : Begun) × (is_still out ≡ true) × (begun_of world.begun key ≡ Some one) × (may_return world.kernel key ≡ true) × (one.out ≡ effect_at_end out.answer out)
+    (one : Begun) × (is_still out ≡ true) × (begun_of world.begun key ≡ Some one) × (may_return world.kernel key ≡ true) × (one.out ≡ effect_at_end out.answer out) × (one.left ≡ 0)
     × (after ≡ record { kernel = returned world.kernel key; begun = without_begun world.begun key })
 IsStep world (effect key out) after = effect_of world (begun_of world.begun key) key out ≡ Some after
+IsStep world (refusal key out) after = effect_by refuses none_left world (begun_of world.begun key) key out ≡ Some after
 IsStep world (thread_sees thread object page flags) after = world_with world (sees world.kernel thread object page flags) ≡ Some after
 IsStep world (thread_queues thread) after = world_with world (queues world.kernel thread) ≡ Some after
 IsStep world (thread_leaves thread) after = world_with world (leaves world.kernel thread) ≡ Some after
 IsStep world (call_tells key) after = world_with world (tells world.kernel key) ≡ Some after
 IsStep world (call_clears key) after = world_with world (clears world.kernel key) ≡ Some after
+IsStep world (page_drops object page) after = world_with world (drops world.kernel object page) ≡ Some after
 IsStep world (call_protects key page) after = protect_of world (begun_of world.begun key) page ≡ Some after
+IsStep world (read_starts key out) after = effect_by starts all_left world (begun_of world.begun key) key out ≡ Some after
+IsStep world (read_takes key) after = next_of world (begun_of world.begun key) key ≡ Some after
 
 -- the steps lead from one world to another
 abbrev pub Leads : World → List Step → World → Type 0

@@ -32,7 +32,7 @@ pub record Kernel : Type 0 where
   -- their events that are not read, those of each in the order in which the kernel queues them; and the calls whose next event is queued
   pub events : List Untold
   pub queued : List ℕ
-  -- of MADV_DONTNEED: the pages of which no REMOVE was read yet, and those that are to be cleared then
+  -- of MADV_DONTNEED and its like: the pages of which no REMOVE was read yet, and those that are to be cleared or freed then
   pub untold : List Span
   pub clears : List Span
   -- the pages that a UFFDIO_WRITEPROTECT under way has protected before its others

@@ -2,7 +2,7 @@
 
 ghost use Rattle.std.specs.Prelude.{◌≡◌};
 ghost use Rattle.kernel_rules.specs.Ioctls.{has_calls, is_offer, is_open_error, is_register_error, is_unregister_error};
-ghost use Rattle.kernel_rules.specs.MapCalls.{has_bytes, has_stopped, is_advice, is_clearing, is_fork_error, is_munmap_error, is_placed};
+ghost use Rattle.kernel_rules.specs.MapCalls.{has_bytes, has_stopped, is_advice, is_clearing, is_fork_error, is_munmap_error, is_placed, is_populating};
 ghost use Rattle.kernel_rules.specs.Reads.{has_room_for, is_poll_error};
 ghost use Rattle.kernel_rules.specs.Runs.{duplicated, is_other, is_unblock_error};
 ghost use Rattle.kernel_rules.specs.State.{allowed, Kernel};
@@ -40,11 +40,11 @@ pub fn is_register_error(object: Object, errno: Errno) -> bool
     }
 }
 
-/// Whether the pages of a range have the calls that each has.
-pub fn has_calls(ioctls: u64) -> bool
-    ensures { result ≡ has_calls ioctls }
+/// Whether the pages of a range have the calls that each has, and those of its mode.
+pub fn has_calls(bits: u64, ioctls: u64) -> bool
+    ensures { result ≡ has_calls bits ioctls }
 {
-    has_bit(ioctls, 2) && has_bit(ioctls, 3)
+    has_bit(ioctls, 2) && has_bit(ioctls, 3) && ioctls / 64 % 4 == bits / 2
 }
 
 /// Whether UFFDIO_UNREGISTER may fail so.
@@ -122,21 +122,31 @@ pub fn is_placed(addr: u64, flags: u64, start: u64) -> bool
     !has_bit(flags, 4) || start == addr
 }
 
-/// Whether madvise(2) knows an advice, where it succeeds.
+/// Whether madvise(2) may answer so: it does not succeed with an advice that it does not know.
 pub fn is_advice(advice: u64, answer: Answer) -> bool
     ensures { result ≡ is_advice advice answer }
 {
     match answer {
         Answer::Done => advice < 104,
-        _ => true,
+        Answer::Failed { errno, .. } => {
+            !matches!(errno, Errno::Enoent | Errno::Esrch | Errno::Eexist)
+        }
+        _ => false,
     }
 }
 
-/// Whether an advice of madvise(2) clears pages.
+/// Whether madvise(2) has touched each page of its range.
+pub fn is_populating(advice: u64, answer: Answer) -> bool
+    ensures { result ≡ is_populating advice answer }
+{
+    matches!(answer, Answer::Done) && (advice == 22 || advice == 23)
+}
+
+/// Whether an advice of madvise(2) clears pages, or lets the kernel take them back.
 pub fn is_clearing(advice: u64) -> bool
     ensures { result ≡ is_clearing advice }
 {
-    advice == 4 || advice == 9 || advice == 24
+    matches!(advice, 4 | 8 | 9 | 24)
 }
 
 /// Whether madvise(2) may have cleared the first pages of its range, and has stopped.
@@ -144,9 +154,7 @@ pub fn has_stopped(advice: u64, answer: Answer) -> bool
     ensures { result ≡ has_stopped advice answer }
 {
     match answer {
-        Answer::Failed { errno, .. } if matches!(errno, Errno::Einval) => {
-            is_clearing(advice) || advice == 8
-        }
+        Answer::Failed { errno, .. } => matches!(errno, Errno::Einval) && is_clearing(advice),
         _ => false,
     }
 }

@@ -86,7 +86,7 @@ pub(crate) fn is_enabled(object: Object) -> bool
 pub(crate) fn is_mode(bits: u64) -> bool
     ensures { result ≡ is_mode bits }
 {
-    0 < bits && bits < 4
+    0 < bits && bits < 8
 }
 
 /// Whether the arguments of a call are right; `most` is the greatest word of modes.

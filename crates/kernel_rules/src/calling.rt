@@ -18,13 +18,15 @@ pub struct Untold {
     pub message: Message,
 }
 
-/// Pages of a space that a call has to announce or to clear: those from `first` on below `end`.
+/// Pages of a space that a call has to announce or to clear: those from `first` on below `end`. `frees` says that the kernel may take them
+/// back then, MADV_FREE, in place of clearing them.
 #[derive(Clone, Copy)]
 pub struct Span {
     pub key: u64,
     pub space: u64,
     pub first: u64,
     pub end: u64,
+    pub frees: bool,
 }
 
 /// A page that a UFFDIO_WRITEPROTECT under way has protected before its others.

@@ -1,12 +1,12 @@
 //! A run of a log: the lines of the log in their order, with steps put in between, each of which the rules of a kernel allow.
 
-ghost use Rattle.std.specs.Prelude.{◌≡◌, ◌&&◌, ◌++◌, ◌∷◌, [], map, IfOk, OnOk, IfSome, option_map};
-ghost use Rattle.kernel_rules.specs.Certified.{begun_at, certified, effected, ended_at, entered, find_of, fresh_place, is_ended_by, lined, moved, moved_all, moved_by, others_than, outcome_in, protected_by, seen_at, IsCertified};
+ghost use Rattle.std.specs.Prelude.{◌≡◌, ◌==◌, ◌&&◌, ◌++◌, ◌∷◌, [], map, IfOk, OnOk, IfSome, option_map};
+ghost use Rattle.kernel_rules.specs.Certified.{begun_at, certified, effected, ended_at, entered, find_of, fresh_place, is_ended_by, is_with, lined, moved, moved_all, moved_by, next_taken, others_than, protected_by, seen_at, IsCertified};
 ghost use Rattle.kernel_rules.specs.Runs.{event_of, is_still, outcome_of, IsClean};
 ghost use Rattle.kernel_rules.specs.MapCalls.{may_return, returned};
 ghost use Rattle.kernel_rules.specs.State.{allowed};
 ghost use Rattle.kernel_rules.specs.Held.{kernel_of, AreTables};
-ghost use Rattle.kernel_rules.specs.Worlds.{if_made, place_of};
+ghost use Rattle.kernel_rules.specs.Worlds.{event_seen, if_made, left_of, outcome_seen, place_of, rule_of};
 
 use crate::kernel_table::KernelTable;
 use crate::run::{Ending, Entry, Made, Move};
@@ -14,11 +14,32 @@ use mig_base::NoMemory;
 use std::alloc::Global;
 use uffd_log::Answer;
 
-/// A call that has begun, and the entry with its ending once it has taken effect.
+/// A call that has begun, and the entry with its ending once it has taken effect, with the number of messages that it has still to take.
 #[derive(Clone, Copy)]
 pub struct BegunCall {
     pub made: Made,
     pub at: Option<usize>,
+    pub left: usize,
+}
+
+/// How a call takes effect: at one time, refused since the space is changing, or as a read that will take its messages one after another.
+#[derive(Clone, Copy)]
+pub enum Way {
+    Whole,
+    Refused,
+    Begun,
+}
+
+impl Way {
+    /// How many messages a call has left then.
+    fn left(self, ending: &Ending) -> usize
+        ensures { result ≡ left_of self (outcome_of ending.now) }
+    {
+        match self {
+            Way::Whole | Way::Refused => 0,
+            Way::Begun => ending.messages.len(),
+        }
+    }
 }
 
 /// A checker of a run: a kernel, the calls that have begun and not ended, and the next entry of the log.
@@ -48,14 +69,23 @@ fn remove_begun(begun: &mut Vec<BegunCall>, key: u32)
     begun.retain(|one| one.made.key != key);
 }
 
+/// Whether a call has taken effect with the ending in an entry.
+fn is_with(one: BegunCall, at: usize) -> bool
+    ensures { result ≡ is_with one.at at }
+{
+    match one.at {
+        Some(other) => other == at,
+        None => false,
+    }
+}
+
 /// Whether a call has taken effect with the ending of the entry where it ends.
 fn fits(one: BegunCall, answer: Answer, next: usize) -> bool
     ensures { result ≡ is_ended_by one.at answer next }
 {
-    match (answer, one.at) {
-        (Answer::Interrupted, at) => at.is_none(),
-        (_, Some(at)) => at == next,
-        (_, None) => false,
+    match answer {
+        Answer::Interrupted => one.at.is_none(),
+        _ => is_with(one, next),
     }
 }
 
@@ -72,7 +102,7 @@ fn is_still(ending: &Ending) -> bool
 /// The ending of an entry, if a call ends there.
 fn ending_of(seen: Option<&Entry>) -> Option<&Ending>
     ensures { option_map (λ ending. outcome_of ending.now) result ≡
-        outcome_in (option_map (λ e. event_of e.now) seen.entry) }
+        outcome_seen seen.entry }
 {
     match seen {
         Some(Entry::Ends { ending, .. }) => Some(ending),
@@ -94,12 +124,12 @@ impl WorldTable {
     }
 
     /// Adds a call that has begun, with the entry of its ending once it has taken effect.
-    fn add_begun(&mut self, made: Made, at: Option<usize>) -> Result<(), NoMemory>
+    fn add_begun(&mut self, made: Made, at: Option<usize>, left: usize) -> Result<(), NoMemory>
         ensures added { OnOk result (self.new.begun.items ≡
-            self.old.begun.items ++ record { made = made; at = at } ∷ []) }
+            self.old.begun.items ++ record { made = made; at = at; left = left } ∷ []) }
         ensures same { self.new ≡ record self.old { begun = self.new.begun } }
     {
-        match self.begun.push(BegunCall { made, at }) {
+        match self.begun.push(BegunCall { made, at, left }) {
             Ok(()) => Ok(()),
             Err(_) => Err(NoMemory),
         }
@@ -116,16 +146,16 @@ impl WorldTable {
         if find_begun(&self.begun, made.key).is_some() {
             return Ok(false);
         }
-        self.add_begun(made, None)?;
+        self.add_begun(made, None, 0)?;
         Ok(true)
     }
 
-    /// Whether a call that has begun may end: it has told all, and has taken effect so.
+    /// Whether a call that has begun may end: it has told all, and has taken effect so, and all its messages.
     fn may_end(&self, one: BegunCall, key: u32, answer: Answer) -> bool
         ensures { result ≡ (may_return (kernel_of self.now.kernel) key
-            && is_ended_by one.at answer self.now.next) }
+            && (is_ended_by one.at answer self.now.next && one.left == 0)) }
     {
-        self.kernel.may_return(u64::from(key)) && fits(one, answer, self.next)
+        self.kernel.may_return(u64::from(key)) && fits(one, answer, self.next) && one.left == 0
     }
 
     /// A call is no longer under way in the kernel.
@@ -176,7 +206,7 @@ impl WorldTable {
         requires { AreTables self.old.kernel }
         ensures tables { AreTables self.new.kernel }
         ensures step { IfOk result (λ ok.
-            lined (place_of self.old) (option_map (λ e. event_of e.now) seen.entry) ≡
+            lined (place_of self.old) (event_seen seen.entry) ≡
             if_made ok (place_of self.new)) }
     {
         let Some(one) = seen else {
@@ -194,23 +224,45 @@ impl WorldTable {
     }
 
     /// A call has taken effect: it stays begun, with its entry.
-    fn note_effect(&mut self, key: u32, made: Made, at: usize) -> Result<(), NoMemory>
+    fn note_effect(&mut self, key: u32, made: Made, at: usize, left: usize) -> Result<(), NoMemory>
         ensures noted { OnOk result (self.new.begun.items ≡
             others_than key self.old.begun.items
-            ++ record { made = made; at = Some at } ∷ []) }
+            ++ record { made = made; at = Some at; left = left } ∷ []) }
         ensures same { self.new ≡ record self.old { begun = self.new.begun } }
     {
         remove_begun(&mut self.begun, key);
-        self.add_begun(made, Some(at))
+        self.add_begun(made, Some(at), left)
+    }
+
+    /// A call takes effect by a rule.
+    fn apply(&mut self, made: Made, ending: &Ending, way: Way) -> Result<bool, NoMemory>
+        requires { AreTables self.old.kernel }
+        ensures tables { AreTables self.new.kernel }
+        ensures same { self.new ≡ record self.old { kernel = self.new.kernel } }
+        ensures step { IfOk result (λ ok.
+            rule_of way (kernel_of self.old.kernel) made (outcome_of ending.now) ≡
+            allowed ok (kernel_of self.new.kernel)) }
+    {
+        match way {
+            Way::Whole => self.kernel.takes(made, ending),
+            Way::Refused => self.kernel.refuses(made, ending),
+            Way::Begun => Ok(self.kernel.may_start(made, ending)),
+        }
     }
 
     /// A call takes effect with the ending in an entry, if it has begun and has not taken effect.
-    fn effect(&mut self, seen: Option<&Entry>, key: u32, at: usize) -> Result<bool, NoMemory>
+    fn effect(
+        &mut self,
+        seen: Option<&Entry>,
+        key: u32,
+        at: usize,
+        way: Way,
+    ) -> Result<bool, NoMemory>
         requires { AreTables self.old.kernel }
         ensures tables { AreTables self.new.kernel }
         ensures step { IfOk result (λ ok.
-            effected (place_of self.old) key at (find_of self.old.begun.items key)
-            (outcome_in (option_map (λ e. event_of e.now) seen.entry)) ≡
+            effected (rule_of way) (left_of way) (place_of self.old) key at
+            (find_of self.old.begun.items key) (outcome_seen seen.entry) ≡
             if_made ok (place_of self.new)) }
     {
         let Some(one) = find_begun(&self.begun, key) else {
@@ -222,10 +274,31 @@ impl WorldTable {
         if one.at.is_some() {
             return Ok(false);
         }
-        if !self.kernel.takes(one.made, ending)? {
+        if !self.apply(one.made, ending, way)? {
             return Ok(false);
         }
-        self.note_effect(key, one.made, at)?;
+        self.note_effect(key, one.made, at, way.left(ending))?;
+        Ok(true)
+    }
+
+    /// A read that has begun to take the messages of an entry takes the next.
+    fn next(&mut self, seen: Option<&Entry>, key: u32, at: usize) -> Result<bool, NoMemory>
+        requires { AreTables self.old.kernel }
+        ensures tables { AreTables self.new.kernel }
+        ensures step { IfOk result (λ ok.
+            next_taken (place_of self.old) key at (find_of self.old.begun.items key)
+            (outcome_seen seen.entry) ≡ if_made ok (place_of self.new)) }
+    {
+        let Some(one) = find_begun(&self.begun, key) else {
+            return Ok(false);
+        };
+        let Some(ending) = ending_of(seen) else {
+            return Ok(false);
+        };
+        if !is_with(one, at) || !self.kernel.takes_next(one.made, one.left, ending)? {
+            return Ok(false);
+        }
+        self.note_effect(key, one.made, at, one.left.saturating_sub(1))?;
         Ok(true)
     }
 
@@ -249,7 +322,8 @@ impl WorldTable {
         ensures { result ≡ seen_at self.now.next step }
     {
         match step {
-            Move::Effect { at, .. } => at,
+            Move::Effect { at, .. } | Move::Refuses { at, .. } => at,
+            Move::Starts { at, .. } | Move::Reads { at, .. } => at,
             _ => self.next,
         }
     }
@@ -260,12 +334,15 @@ impl WorldTable {
         requires { AreTables self.old.kernel }
         ensures tables { AreTables self.new.kernel }
         ensures step { IfOk result (λ ok.
-            moved_by (option_map (λ e. event_of e.now) seen.entry) (place_of self.old) step ≡
+            moved_by (event_seen seen.entry) (place_of self.old) step ≡
             if_made ok (place_of self.new)) }
     {
         match step {
             Move::Line => self.line(seen),
-            Move::Effect { key, at } => self.effect(seen, key, at),
+            Move::Effect { key, at } => self.effect(seen, key, at, Way::Whole),
+            Move::Refuses { key, at } => self.effect(seen, key, at, Way::Refused),
+            Move::Starts { key, at } => self.effect(seen, key, at, Way::Begun),
+            Move::Reads { key, at } => self.next(seen, key, at),
             Move::Sees {
                 thread,
                 object,
@@ -276,6 +353,7 @@ impl WorldTable {
             Move::Leaves { thread } => self.kernel.leaves(thread),
             Move::Tells { key } => self.kernel.tells(u64::from(key)),
             Move::Clears { key } => self.kernel.clears(u64::from(key)),
+            Move::Drops { object, page } => self.kernel.drops(object, page),
             Move::Protects { key, page } => self.protects(key, page),
         }
     }
@@ -316,7 +394,7 @@ impl WorldTable {
 ///
 /// A call that never ends in the log may take effect with the ending of any entry.
 ///
-/// Not followed, and so refused, are UFFDIO_MOVE, UFFDIO_CONTINUE, UFFDIO_POISON and the minor mode.
+/// Not followed, and so refused, is UFFDIO_MOVE between ranges that overlap.
 pub fn certify(alloc: Global, log: &[Entry], run: &[Move]) -> Result<Option<KernelTable>, NoMemory>
     ensures tables { IfOk result (λ found. IfSome found AreTables) }
     ensures run { IfOk result (λ found. IfSome found (λ table.

@@ -2,7 +2,7 @@
 
 ghost use Rattle.std.specs.Prelude.{◌≡◌, ◌++◌, [], OnOk, filter, filter_map, if◌then◌else◌, not, true};
 ghost use Rattle.std.specs.List.{list_any};
-ghost use Rattle.kernel_rules.specs.Pages.{is_of_protection};
+ghost use Rattle.kernel_rules.specs.Pages.{is_of_minor, is_of_protection};
 ghost use Rattle.kernel_rules.specs.Faults.{are_flags, is_seen, stops_at, fault_of, faults_without, is_twin, sleeps, is_unread_in, is_of_thread, left_unanswered};
 ghost use Rattle.kernel_rules.specs.Reads.{first_unread};
 
@@ -17,7 +17,7 @@ pub struct Fault {
     pub thread: u64,
     pub object: u64,
     pub page: u64,
-    /// As in `struct uffd_msg`: bit 0 for a store, bit 1 for a page that is write-protected.
+    /// As in `struct uffd_msg`: bit 0 for a store, bit 1 for one to a page that is write-protected.
     pub flags: u64,
     pub phase: Phase,
     /// The call that read its message, if the page was not there then: it has to be answered.
@@ -38,25 +38,36 @@ pub fn is_protection(flags: u64) -> bool
     has_bit(flags, 1)
 }
 
-/// Whether flags are those of a fault that is judged.
+/// Whether the flags are those of a page that is not mapped, and is in the page cache.
+fn is_minor(flags: u64) -> bool
+    ensures { result ≡ is_of_minor flags }
+{
+    has_bit(flags, 2)
+}
+
+/// Whether flags are those of a fault.
 pub fn are_flags(flags: u64) -> bool
     ensures { result ≡ are_flags flags }
 {
-    flags < 4
+    flags < 6 && flags != 2
 }
 
 /// Whether an access with these flags has to wait at a page that is registered with the object.
 pub fn stops(object: u64, flags: u64, page: Page) -> bool
     ensures { result ≡ stops_at object flags page }
 {
-    if page.object != object {
+    if page.object != object || matches!(page.presence, Presence::Poisoned) {
         return false;
     }
     if is_protection(flags) {
-        page.protect && page.guarded && !matches!(page.presence, Presence::Missing)
-    } else {
-        page.missing && !matches!(page.presence, Presence::Present)
+        return page.protect && page.guarded && !matches!(page.presence, Presence::Missing);
     }
+    let watched = if is_minor(flags) {
+        page.minor
+    } else {
+        page.missing
+    };
+    watched && !matches!(page.presence, Presence::Present)
 }
 
 /// The fault of a thread, if it waits.

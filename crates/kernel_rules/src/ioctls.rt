@@ -3,6 +3,7 @@
 
 ghost use Rattle.std.specs.Prelude.{◌≡◌, ◌==◌, ◌≤◌, ◌+◌, ◌/◌, ◌^◌, ◌&&◌, ◌++◌, ◌∷◌, [], if◌then◌else◌, not, Some, IfOk, OnOk};
 ghost use Rattle.mig_base.specs.declared.TheConstants.{PAGE_SIZE};
+ghost use Rattle.mig_base.specs.Bits.{is_one};
 ghost use Rattle.kernel_rules.specs.State.{allowed, some_page};
 ghost use Rattle.kernel_rules.specs.Ioctls.{has_calls, is_mode, is_owed, may_shake, opened, registered, shaken, unregistered, unregistered_in, waked, with_handshake, with_owed, with_range, with_registered};
 ghost use Rattle.kernel_rules.specs.State.{asked_for, is_enabled, is_range, noted_if, page_is};
@@ -27,7 +28,11 @@ use uffd_log::{Answer, Errno};
 fn is_owed(name: u64, object: Object, page: Page) -> bool
     ensures { result ≡ is_owed name object page }
 {
-    page.object == name && object.puts && page.missing && matches!(page.presence, Presence::Missing)
+    page.object == name
+        && object.puts
+        && page.missing
+        && !page.minor
+        && matches!(page.presence, Presence::Missing)
 }
 
 /// Whether the handshake may be made.
@@ -38,11 +43,17 @@ fn may_shake(object: Object, api: u64, features: u64, offered: u64) -> bool
 }
 
 impl KernelTable {
-    /// userfaultfd(2), for a space.
-    pub(crate) fn open(&mut self, space: u64, flags: u64, answer: Answer) -> Result<bool, NoMemory>
+    /// userfaultfd(2), for a space, by a program.
+    pub(crate) fn open(
+        &mut self,
+        space: u64,
+        program: u64,
+        flags: u64,
+        answer: Answer,
+    ) -> Result<bool, NoMemory>
         requires { AreTables self.old }
         ensures tables { AreTables self.new }
-        ensures step { IfOk result (λ made. opened (kernel_of self.old) space flags answer ≡
+        ensures step { IfOk result (λ made. opened (kernel_of self.old) space program flags answer ≡
             allowed made (kernel_of self.new)) }
     {
         match answer {
@@ -58,6 +69,7 @@ impl KernelTable {
                     on.object,
                     Object {
                         space,
+                        program,
                         waits,
                         features: None,
                         puts: false,
@@ -154,12 +166,13 @@ impl KernelTable {
             noted_if (not (asked_for object 2 && asked_for object 3 && asked_for object 6))
             differs.RegisterWithoutEvents
             (with_range (with_registered (kernel_of self.old) name object.space first count
-            (mode_of bits)) name first count)) }
+            (mode_of bits) (is_one bits 2)) name first count)) }
     {
         let change = Change::Register {
             object: name,
             missing: has_bit(bits, 0),
             protect: has_bit(bits, 1),
+            minor: has_bit(bits, 2),
         };
         self.change(object.space, first, count, change)?;
         self.note_range(name, first, count)?;
@@ -185,7 +198,7 @@ impl KernelTable {
     {
         match answer {
             Answer::Value(ioctls) => {
-                if !has_calls(ioctls) || !self.may_register(name, object, start, len, bits) {
+                if !has_calls(bits, ioctls) || !self.may_register(name, object, start, len, bits) {
                     return Ok(false);
                 }
                 self.register_in(name, object, start / PAGE_SIZE, len / PAGE_SIZE, bits)?;

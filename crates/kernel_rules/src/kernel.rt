@@ -127,6 +127,26 @@ impl Kernel {
         self.table.takes(made, ending)
     }
 
+    /// A call of a log takes effect as one that was refused since the address space is changing. False where no rule allows it.
+    pub fn refuses(&mut self, made: Made, ending: &Ending) -> Result<bool, NoMemory> {
+        self.table.refuses(made, ending)
+    }
+
+    /// Whether a read may begin to take the messages of an ending one after another.
+    pub fn may_start(&self, made: Made, ending: &Ending) -> bool {
+        self.table.may_start(made, ending)
+    }
+
+    /// A read takes the first of the last `left` messages of an ending. False where no rule allows it; a part may be done then.
+    pub fn takes_next(
+        &mut self,
+        made: Made,
+        left: usize,
+        ending: &Ending,
+    ) -> Result<bool, NoMemory> {
+        self.table.takes_next(made, left, ending)
+    }
+
     /// A thread finds that it has to wait at a page. False where no rule allows it.
     pub fn sees(
         &mut self,
@@ -156,6 +176,11 @@ impl Kernel {
     /// A map call clears its pages. False where no rule allows it.
     pub fn clears(&mut self, key: u64) -> Result<bool, NoMemory> {
         self.table.clears(key)
+    }
+
+    /// The kernel takes back a page of an object, for which MADV_FREE was called. False where no rule allows it.
+    pub fn drops(&mut self, object: u64, page: u64) -> Result<bool, NoMemory> {
+        self.table.drops(object, page)
     }
 
     /// A UFFDIO_WRITEPROTECT under way protects a page of its range, and the others later. False where no rule allows it.

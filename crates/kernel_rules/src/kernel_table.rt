@@ -1,6 +1,6 @@
 //! A kernel, in tables: what is looked up in them, and the changes of which the rules are made.
 
-ghost use Rattle.std.specs.Prelude.{◌≡◌, ◌≤◌, ◌+◌, ◌^◌, ◌++◌, ◌∷◌, ◌==◌, [], ℕ, false, if◌then◌else◌, nat_eq, IfOk, OnOk};
+ghost use Rattle.std.specs.Prelude.{◌≡◌, ◌≤◌, ◌+◌, ◌^◌, ◌++◌, ◌∷◌, ◌==◌, ◌<◌, [], ℕ, false, if◌then◌else◌, nat_eq, IfOk, OnOk};
 ghost use Rattle.std.specs.Bool.{OnFalse};
 ghost use Rattle.std.specs.List.{list_any};
 ghost use Rattle.kernel_rules.specs.State.{allowed, each_page, fresh_kernel, noted_if, page_is, set_pages, some_page, with_object};
@@ -137,16 +137,34 @@ impl KernelTable {
         }
     }
 
+    /// How many pages of a space from one on, `most` at most, are the same.
+    fn run(&self, space: u64, page: u64, most: u64) -> u64
+        requires tables { AreTables self.now }
+        requires some { 0 < most }
+        requires room { page + most ≤ 2 ^ 64 }
+        ensures some { 0 < result }
+        ensures within { result ≤ most }
+        ensures same { (n : ℕ) → page ≤ n → n < page + result →
+            (kernel_of self.now).pages space n ≡ (kernel_of self.now).pages space page }
+    {
+        match self.spaces.get(&space) {
+            Some(pages) => pages.run(page, most),
+            None => most,
+        }
+    }
+
     /// Whether each page of a range is registered, and passes a test.
     pub(crate) fn each_page(&self, space: u64, first: u64, count: u64, test: PageTest) -> bool
         requires tables { AreTables self.now }
         requires room { first + count ≤ 2 ^ 64 }
         ensures { result ≡ each_page (kernel_of self.now) space first count (passes test) }
     {
-        for i in 0..count {
-            if !self.page_passes(space, first + i, test) {
+        let mut done = 0;
+        while done < count {
+            if !self.page_passes(space, first + done, test) {
                 return false;
             }
+            done += self.run(space, first + done, count - done);
         }
         true
     }
@@ -157,10 +175,12 @@ impl KernelTable {
         requires room { first + count ≤ 2 ^ 64 }
         ensures { result ≡ some_page (kernel_of self.now) space first count (passes test) }
     {
-        for i in 0..count {
-            if self.page_passes(space, first + i, test) {
+        let mut done = 0;
+        while done < count {
+            if self.page_passes(space, first + done, test) {
                 return true;
             }
+            done += self.run(space, first + done, count - done);
         }
         false
     }

@@ -5,15 +5,17 @@ ghost use Rattle.kernel_rules.specs.Pages.{known_as};
 
 /// Whether a page is present. One that is not registered for missing faults may be touched at any time, so nothing is known of it until
 /// a call shows it.
-#[derive(Clone, Copy)]
+#[derive(Clone, Copy, PartialEq, Eq)]
 pub enum Presence {
     Unknown,
     Missing,
     Present,
+    /// UFFDIO_POISON was called for it: an access is SIGBUS.
+    Poisoned,
 }
 
 /// A page that is registered.
-#[derive(Clone, Copy)]
+#[derive(Clone, Copy, PartialEq, Eq)]
 pub struct Page {
     /// The object with which it is registered.
     pub object: u64,
@@ -21,12 +23,16 @@ pub struct Page {
     pub missing: bool,
     /// Whether it is registered for write-protect faults.
     pub protect: bool,
-    /// Whether it is present, as far as the log has shown it.
+    /// Whether it is registered for minor faults: its memory is shared, and a page that is not mapped may be there.
+    pub minor: bool,
+    /// Whether it is present, as far as the log has shown it: mapped, where it is registered for minor faults.
     pub presence: Presence,
     /// Whether it is write-protected, if it is present.
     pub guarded: bool,
     /// Whether a call of the log has put it.
     pub put: bool,
+    /// Whether the kernel may take it back at any time, by MADV_FREE: as far as the log shows, nothing was stored there since.
+    pub freed: bool,
 }
 
 /// What is known of the presence of a page that may have this one: where it is not registered for missing faults a processor's touch fills it

@@ -1,17 +1,19 @@
 //! The calls that change an address space, by the rules of `specs/MapCalls.antt`. After `NoMemory`, or
 //! where no rule allows the answer, a table is not to be used.
 
-ghost use Rattle.std.specs.Prelude.{◌≡◌, ◌<◌, ◌≤◌, ◌+◌, ◌^◌, ◌++◌, ◌∷◌, [], IfOk, OnOk};
+ghost use Rattle.std.specs.Prelude.{◌≡◌, ◌==◌, ◌<◌, ◌≤◌, ◌+◌, ◌^◌, ◌++◌, ◌∷◌, [], IfOk, OnOk};
 ghost use Rattle.mig_base.specs.Ranges.{pages_of};
 ghost use Rattle.kernel_rules.specs.State.{allowed};
 ghost use Rattle.kernel_rules.specs.MapCalls as maps;
 ghost use Rattle.kernel_rules.specs.Held.{kernel_of, AreTables};
 
-use crate::answers::{has_bytes, has_stopped, is_advice, is_clearing, is_munmap_error, is_placed};
+use crate::answers::{
+    has_bytes, has_stopped, is_advice, is_clearing, is_munmap_error, is_placed, is_populating,
+};
 use crate::calling::Span;
 use crate::change::Change;
 use crate::kernel_table::KernelTable;
-use crate::known::Presence;
+use crate::page_test::PageTest;
 use mig_base::{NoMemory, PAGE_SIZE};
 use uffd_log::{Answer, Errno};
 
@@ -124,32 +126,44 @@ impl KernelTable {
         }
     }
 
-    /// Pages are cleared: those that are registered are missing, or may be.
-    fn clear(
+    /// Pages are cleared: those that are registered are missing; or the kernel may take them back.
+    pub(crate) fn clear(
         &mut self,
         space: u64,
         first: u64,
         count: u64,
-        presence: Presence,
+        frees: bool,
     ) -> Result<(), NoMemory>
         requires tables { AreTables self.old }
         requires room { first + count ≤ 2 ^ 64 }
         ensures tables { AreTables self.new }
         ensures cleared { OnOk result (kernel_of self.new ≡
-            maps.cleared_to (kernel_of self.old) space first count presence) }
+            maps.all_cleared (kernel_of self.old) space first count frees) }
     {
-        self.change(space, first, count, Change::Clear { presence })
+        let change = if frees { Change::Free } else { Change::Clear };
+        self.change(space, first, count, change)
     }
 
-    /// A call may have cleared pages of a range, and has stopped before its last one.
-    fn clear_part(&mut self, space: u64, first: u64, count: u64) -> Result<(), NoMemory>
+    /// A call may have cleared pages of a range, or freed them, and has stopped before its last one.
+    fn clear_part(
+        &mut self,
+        space: u64,
+        first: u64,
+        count: u64,
+        advice: u64,
+    ) -> Result<(), NoMemory>
         requires tables { AreTables self.old }
         requires room { first + count ≤ 2 ^ 64 }
         ensures tables { AreTables self.new }
         ensures cleared { OnOk result (kernel_of self.new ≡
-            maps.cleared_in_part (kernel_of self.old) space first count) }
+            maps.cleared_in_part (kernel_of self.old) space first count advice) }
     {
-        self.change(space, first, count.saturating_sub(1), Change::PerhapsClear)
+        let change = if advice == 8 {
+            Change::Free
+        } else {
+            Change::PerhapsClear
+        };
+        self.change(space, first, count.saturating_sub(1), change)
     }
 
     /// A call has a range to announce, and to clear then.
@@ -178,13 +192,15 @@ impl KernelTable {
         space: u64,
         first: u64,
         count: u64,
+        advice: u64,
         told: &[u64],
     ) -> Result<(), NoMemory>
         requires tables { AreTables self.old }
         requires room { first + count < 2 ^ 64 }
         ensures tables { AreTables self.new }
         ensures begun { OnOk result (kernel_of self.new ≡ maps.with_clearing
-            (maps.with_all_told (kernel_of self.old) key told.now) key space first count) }
+            (maps.with_all_told (kernel_of self.old) key told.now) key space first count
+            (advice == 8)) }
     {
         self.add_all_told(key, told)?;
         self.add_calling(key)?;
@@ -194,31 +210,56 @@ impl KernelTable {
             space,
             first,
             end,
+            frees: advice == 8,
         })
     }
 
-    /// A call begins to clear a range.
+    /// A call begins to clear a range, or to free it.
     fn begin_to_clear(
         &mut self,
         key: u64,
         space: u64,
         first: u64,
         count: u64,
+        advice: u64,
     ) -> Result<(), NoMemory>
         requires tables { AreTables self.old }
         requires room { first + count < 2 ^ 64 }
         ensures tables { AreTables self.new }
         ensures begun { OnOk result (kernel_of self.new ≡
-            maps.clearing (kernel_of self.old) key space first count) }
+            maps.clearing (kernel_of self.old) key space first count (advice == 8)) }
     {
         let told = self.told_in(3, space, first, first + count)?;
         if told.is_empty() {
-            return self.clear(space, first, count, Presence::Missing);
+            return self.clear(space, first, count, advice == 8);
         }
-        self.clear_later(key, space, first, count, &told)
+        self.clear_later(key, space, first, count, advice, &told)
     }
 
-    /// madvise(2), of the advices that clear pages.
+    /// Each page of a range was there when it was touched, and could be written if it was to be.
+    fn populate(
+        &mut self,
+        space: u64,
+        first: u64,
+        count: u64,
+        advice: u64,
+    ) -> Result<bool, NoMemory>
+        requires tables { AreTables self.old }
+        requires room { first + count ≤ 2 ^ 64 }
+        ensures tables { AreTables self.new }
+        ensures step { IfOk result (λ made.
+            maps.populated (kernel_of self.old) space first count (advice == 23) ≡
+            allowed made (kernel_of self.new)) }
+    {
+        if self.some_page(space, first, count, PageTest::Lacking) {
+            return Ok(false);
+        }
+        let write = advice == 23;
+        self.change(space, first, count, Change::Populate { write })?;
+        Ok(true)
+    }
+
+    /// madvise(2), of the advices that clear pages, or touch them.
     pub(crate) fn madvises(
         &mut self,
         key: u64,
@@ -238,20 +279,36 @@ impl KernelTable {
             return Ok(false);
         }
         let (first, count) = (addr / PAGE_SIZE, pages_of(len));
+        if is_populating(advice, answer) {
+            return self.populate(space, first, count, advice);
+        }
         if has_stopped(advice, answer) {
-            self.clear_part(space, first, count)?;
+            self.clear_part(space, first, count, advice)?;
             return Ok(true);
         }
         if !has_cleared(answer) {
             return Ok(true);
         }
         if is_clearing(advice) {
-            self.begin_to_clear(key, space, first, count)?;
-            return Ok(true);
+            self.begin_to_clear(key, space, first, count, advice)?;
         }
-        if advice == 8 {
-            self.clear(space, first, count, Presence::Unknown)?;
+        Ok(true)
+    }
+
+    /// The kernel takes back a page of an object for which MADV_FREE was called. False where no rule allows that, and nothing has changed then.
+    pub fn drops(&mut self, name: u64, page: u64) -> Result<bool, NoMemory>
+        requires { AreTables self.old }
+        ensures tables { AreTables self.new }
+        ensures step { IfOk result (λ made.
+            maps.drops (kernel_of self.old) name page ≡ allowed made (kernel_of self.new)) }
+    {
+        let Some(object) = self.object(name) else {
+            return Ok(false);
+        };
+        if !self.page_passes(object.space, page, PageTest::Freed(name)) {
+            return Ok(false);
         }
+        self.change(object.space, page, 1, Change::Clear)?;
         Ok(true)
     }
 }

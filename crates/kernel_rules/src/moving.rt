@@ -28,6 +28,7 @@ fn grown(page: Option<Page>) -> Option<Page>
             presence: known_as(page, Presence::Missing),
             guarded: false,
             put: false,
+            freed: false,
             ..page
         }),
         None => None,

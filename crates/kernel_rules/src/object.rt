@@ -5,6 +5,8 @@
 pub struct Object {
     /// The address space that it watches.
     pub space: u64,
+    /// The program that opened it, by the line where that began; 0 where the log does not have it.
+    pub program: u64,
     /// Whether read(2) waits for a message: O_NONBLOCK is not set.
     pub waits: bool,
     /// What the handshake asked for, if it was made.

@@ -1,53 +1,31 @@
-//! The registered pages of an address space, in a table: changes of long ranges are kept as they are, and short ones page by page.
+//! The registered pages of an address space, as runs of equal ones.
 
-ghost use Rattle.std.specs.Prelude.{◌≡◌, ◌≤◌, ◌+◌, ◌^◌, ℕ, if◌then◌else◌, None, OnOk, OnErr};
-ghost use Rattle.mig_base.specs.Ranges.{in_range};
-ghost use Rattle.kernel_rules.specs.Changes.{changed, range_changed};
-ghost use Rattle.kernel_rules.specs.Tables.{pages_of, IsTable};
+ghost use Rattle.std.specs.Prelude.{◌≡◌, ◌≤◌, ◌<◌, ◌+◌, ◌^◌, ◌==◌, ℕ, false, true, None, OnOk, IfOk};
+ghost use Rattle.std.specs.Bool.{OnTrue};
+ghost use Rattle.std.specs.Ordering.{nat_cmp};
+ghost use Rattle.std.specs.BTreeMap.{get};
+ghost use Rattle.kernel_rules.specs.Changes.{range_changed};
+ghost use Rattle.kernel_rules.specs.Tables.{pages_of, range_set, IsTable};
 
 use crate::change::Change;
 use crate::known::Page;
-use indexmap::IndexMap;
 use mig_base::NoMemory;
 use std::alloc::Global;
+use std::collections::BTreeMap;
+use std::ops::Bound;
 
-/// The most pages that are changed one by one.
-const SHORT: u64 = 1024;
-
-/// A single page, and how many changes of ranges were made before it was kept: it includes these.
-#[derive(Clone, Copy)]
-pub struct Kept {
-    pub page: Option<Page>,
-    pub since: usize,
-}
-
-/// A change of `count` pages from `first` on.
-#[derive(Clone, Copy)]
-pub struct Layer {
-    pub first: u64,
-    pub count: u64,
-    pub change: Change,
-}
-
-/// The registered pages of an address space. A look-up takes as long as there are changes of long ranges since the page was kept.
+/// The registered pages of an address space. All pages from a key on, up to the next key, are what is kept at the key. Neighbours that become
+/// equal are joined, so that pages that are put one by one and then protected as one are few runs.
 #[derive(Drop)]
 pub struct PageTable {
-    pub kept: IndexMap<u64, Kept>,
-    pub layers: Vec<Layer>,
+    pub runs: BTreeMap<u64, Option<Page>>,
 }
 
-impl Layer {
-    /// What is known of a page once the change is made.
-    fn apply(self, page: u64, found: Option<Page>) -> Option<Page>
-        ensures { result ≡ (if in_range self.first self.count page then changed self.change found
-            else found) }
-    {
-        if self.first <= page && page - self.first < self.count {
-            self.change.apply(found)
-        } else {
-            found
-        }
-    }
+/// Whether two pages are the same.
+fn are_same(page: Option<Page>, other: Option<Page>) -> bool
+    ensures { OnTrue result (page ≡ other) }
+{
+    page == other
 }
 
 impl PageTable {
@@ -57,8 +35,7 @@ impl PageTable {
         ensures none { (page : ℕ) → pages_of result page ≡ None }
     {
         PageTable {
-            kept: IndexMap::new(alloc),
-            layers: Vec::new(alloc),
+            runs: BTreeMap::new(alloc),
         }
     }
 
@@ -67,70 +44,87 @@ impl PageTable {
         requires { IsTable self.now }
         ensures { result ≡ pages_of self.now page }
     {
-        let (mut found, since) = match self.kept.get(&page) {
-            Some(kept) => (kept.page, kept.since),
-            None => (None, 0),
-        };
-        for layer in &self.layers[since..] {
-            found = layer.apply(page, found);
+        match self.runs.range(..=page).next_back() {
+            Some((_, found)) => *found,
+            None => None,
         }
-        found
     }
 
-    /// Changes one page. `NoMemory` comes if room is refused, and nothing has changed then.
-    pub(crate) fn change_one(&mut self, page: u64, change: Change) -> Result<(), NoMemory>
+    /// How many pages from one on, `most` at most, are the same.
+    pub(crate) fn run(&self, page: u64, most: u64) -> u64
+        requires table { IsTable self.now }
+        requires some { 0 < most }
+        requires room { page + most ≤ 2 ^ 64 }
+        ensures some { 0 < result }
+        ensures within { result ≤ most }
+        ensures none { (n : ℕ) → page < n → n < page + result →
+            get nat_cmp self.now.runs n ≡ None }
+    {
+        if most == 1 {
+            return 1;
+        }
+        let after = (Bound::Excluded(page), Bound::Unbounded);
+        match self.runs.range(after).next() {
+            Some((next, _)) => most.min(*next - page),
+            None => most,
+        }
+    }
+
+    /// A run starts at a page, unless the page before it is the same.
+    fn start(&mut self, page: u64, found: Option<Page>) -> Result<(), NoMemory>
         requires { IsTable self.old }
         ensures table { IsTable self.new }
-        ensures ok { OnOk result ((n : ℕ) →
-            pages_of self.new n ≡ range_changed (pages_of self.old) page 1 change n) }
-        ensures err { OnErr result ((n : ℕ) → pages_of self.new n ≡ pages_of self.old n) }
+        ensures others { OnOk result ((n : ℕ) → (page == n) ≡ false →
+            get nat_cmp self.new.runs n ≡ get nat_cmp self.old.runs n) }
+        ensures found { OnOk result (pages_of self.new page ≡ found) }
     {
-        let found = change.apply(self.look(page));
-        let since = self.layers.len();
-        match self.kept.insert(page, Kept { page: found, since }) {
+        if page > 0 && are_same(self.look(page - 1), found) {
+            self.runs.remove(&page);
+            return Ok(());
+        }
+        match self.runs.insert(page, found) {
             Ok(_) => Ok(()),
             Err(_) => Err(NoMemory),
         }
     }
 
-    /// Changes `count` pages from `first` on, as one. `NoMemory` comes if room is refused, and nothing has changed then.
-    pub(crate) fn change_range(
-        &mut self,
-        first: u64,
-        count: u64,
-        change: Change,
-    ) -> Result<(), NoMemory>
-        requires { IsTable self.old }
-        ensures table { IsTable self.new }
-        ensures ok { OnOk result ((n : ℕ) →
-            pages_of self.new n ≡ range_changed (pages_of self.old) first count change n) }
-        ensures err { OnErr result ((n : ℕ) → pages_of self.new n ≡ pages_of self.old n) }
-    {
-        match self.layers.push(Layer {
-            first,
-            count,
-            change,
-        }) {
-            Ok(()) => Ok(()),
-            Err(_) => Err(NoMemory),
-        }
-    }
-
-    /// Changes pages from `first` on, one by one. After `NoMemory` some are changed.
-    fn change_each(&mut self, first: u64, count: u64, change: Change) -> Result<(), NoMemory>
+    /// Sets pages, which are the same. After `NoMemory` others may be changed too.
+    fn set(&mut self, first: u64, count: u64, found: Option<Page>) -> Result<(), NoMemory>
         requires table { IsTable self.old }
         requires room { first + count ≤ 2 ^ 64 }
+        requires some { 0 < count }
+        requires same { (n : ℕ) → first < n → n < first + count →
+            get nat_cmp self.old.runs n ≡ None }
         ensures table { IsTable self.new }
-        ensures ok { OnOk result ((n : ℕ) →
-            pages_of self.new n ≡ range_changed (pages_of self.old) first count change n) }
+        ensures set { OnOk result ((n : ℕ) →
+            pages_of self.new n ≡ range_set (pages_of self.old) first count found n) }
     {
-        for i in 0..count {
-            self.change_one(first + i, change)?;
-        }
-        Ok(())
+        let Some(end) = first.checked_add(count) else {
+            return self.start(first, found);
+        };
+        let next = self.look(end);
+        self.start(first, found)?;
+        self.start(end, next)
     }
 
-    /// Changes `count` pages from `first` on: a long range is kept as it is, and a short one page by page. After `NoMemory` some are changed.
+    /// Changes the pages from one on that are the same, `most` at most, and says how many. After `NoMemory` others may be changed too.
+    fn change_run(&mut self, first: u64, most: u64, change: Change) -> Result<u64, NoMemory>
+        requires table { IsTable self.old }
+        requires room { first + most ≤ 2 ^ 64 }
+        requires some { 0 < most }
+        ensures table { IsTable self.new }
+        ensures some { IfOk result (λ count. 0 < count) }
+        ensures within { IfOk result (λ count. count ≤ most) }
+        ensures changed { IfOk result (λ count. (n : ℕ) →
+            pages_of self.new n ≡ range_changed (pages_of self.old) first count change n) }
+    {
+        let found = self.look(first);
+        let count = self.run(first, most);
+        self.set(first, count, change.apply(found))?;
+        Ok(count)
+    }
+
+    /// Changes `count` pages from `first` on. After `NoMemory` the table is not to be used.
     pub(crate) fn change(&mut self, first: u64, count: u64, change: Change) -> Result<(), NoMemory>
         requires table { IsTable self.old }
         requires room { first + count ≤ 2 ^ 64 }
@@ -138,10 +132,10 @@ impl PageTable {
         ensures ok { OnOk result ((n : ℕ) →
             pages_of self.new n ≡ range_changed (pages_of self.old) first count change n) }
     {
-        if count <= SHORT {
-            self.change_each(first, count, change)
-        } else {
-            self.change_range(first, count, change)
+        let mut done = 0;
+        while done < count {
+            done += self.change_run(first + done, count - done, change)?;
         }
+        Ok(())
     }
 }

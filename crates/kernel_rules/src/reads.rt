@@ -1,7 +1,7 @@
 //! read(2) and poll(2) of a userfault object, by the rules of `specs/Reads.antt`. After `NoMemory`, or where no rule allows the answer, a
 //! table is not to be used.
 
-ghost use Rattle.std.specs.Prelude.{◌≡◌, ◌==◌, ◌&&◌, ◌++◌, count_by, filter, not, option_to_list, false, None, Some, IfOk, OnOk};
+ghost use Rattle.std.specs.Prelude.{◌≡◌, ◌-◌, ◌==◌, ◌&&◌, ◌++◌, count_by, drop, filter, length, not, option_to_list, false, None, Some, IfOk, OnOk};
 ghost use Rattle.std.specs.List.{list_any};
 ghost use Rattle.kernel_rules.specs.State.{allowed};
 ghost use Rattle.kernel_rules.specs.Ioctls as ioctl;
@@ -22,17 +22,36 @@ use crate::telling::{remove_number, remove_spans};
 use mig_base::{NoMemory, PAGE_SIZE};
 use uffd_log::{Answer, Errno, Message};
 
+/// A read of an object: its number in the log, and its thread, where page faults name that by the same number.
+#[derive(Clone, Copy)]
+pub(crate) struct Reading {
+    pub(crate) key: u64,
+    pub(crate) reader: Option<u64>,
+    pub(crate) name: u64,
+    pub(crate) object: Object,
+}
+
 /// Whether a fault has the fields of its message.
 fn is_message(object: Object, fault: Fault, addr: u64, flags: u64, thread: u32) -> bool
     ensures { result ≡ reads.is_message object fault addr flags thread }
 {
     let named = if asked_for(object, 8) {
-        fault.thread == u64::from(thread)
+        fault.thread == u64::from(thread) && 0 < thread
     } else {
         thread == 0
     };
     let exact = asked_for(object, 11) || addr % PAGE_SIZE == 0;
     fault.page == addr / PAGE_SIZE && exact && fault.flags == flags && named
+}
+
+/// Whether a message names the thread that reads it.
+fn is_own_fault(reader: Option<u64>, thread: u32) -> bool
+    ensures { result ≡ reads.is_own_fault reader thread }
+{
+    match reader {
+        Some(reader) => reader == u64::from(thread),
+        None => false,
+    }
 }
 
 /// The next event of a call, if it has any.
@@ -107,6 +126,24 @@ fn count_faults(messages: &[Message]) -> usize
         .iter()
         .filter(|message| is_fault(**message))
         .count()
+}
+
+/// Whether read(2) may say that it returns these messages.
+pub(crate) fn may_return(
+    object: Object,
+    room: Option<u64>,
+    messages: &[Message],
+    answer: Answer,
+) -> bool
+    ensures { result ≡ reads.may_return_messages object room messages.now answer }
+{
+    match answer {
+        Answer::Value(count) => {
+            let is_of = count == messages.len() as u64 && count > 0;
+            is_enabled(object) && is_of && has_room_for(count, room)
+        }
+        _ => false,
+    }
 }
 
 impl KernelTable {
@@ -386,9 +423,7 @@ impl KernelTable {
     /// A fault is read, if it is the first.
     fn read_fault(
         &mut self,
-        key: u64,
-        name: u64,
-        object: Object,
+        by: Reading,
         addr: u64,
         flags: u64,
         thread: u32,
@@ -396,19 +431,20 @@ impl KernelTable {
         requires { AreTables self.old }
         ensures tables { AreTables self.new }
         ensures step { IfOk result (λ made.
-            reads.fault_taken (kernel_of self.old) key name object addr flags thread ≡
+            reads.fault_taken (kernel_of self.old) by.key by.reader by.name by.object
+            addr flags thread ≡
             allowed made (kernel_of self.new)) }
     {
-        let Some(fault) = self.first_unread(name) else {
+        let Some(fault) = self.first_unread(by.name) else {
             return Ok(false);
         };
-        if !is_message(object, fault, addr, flags, thread) {
+        if !is_message(by.object, fault, addr, flags, thread) || is_own_fault(by.reader, thread) {
             return Ok(false);
         }
-        let waits = self.must_wait(object.space, fault);
+        let waits = self.must_wait(by.object.space, fault);
         self.put_fault(Fault {
             phase: Phase::Asleep,
-            read_by: if waits { Some(key) } else { None },
+            read_by: if waits { Some(by.key) } else { None },
             ..fault
         })?;
         Ok(true)
@@ -417,16 +453,15 @@ impl KernelTable {
     /// A message is read, and this many page faults after it.
     fn read_message(
         &mut self,
-        key: u64,
-        name: u64,
-        object: Object,
+        by: Reading,
         message: Message,
         later: usize,
     ) -> Result<bool, NoMemory>
         requires { AreTables self.old }
         ensures tables { AreTables self.new }
         ensures step { IfOk result (λ made.
-            reads.message_taken (kernel_of self.old) key name object message later ≡
+            reads.message_taken (kernel_of self.old) by.key by.reader by.name by.object
+            message later ≡
             allowed made (kernel_of self.new)) }
     {
         if let Message::Fault {
@@ -435,35 +470,52 @@ impl KernelTable {
             thread,
         } = message
         {
-            return self.read_fault(key, name, object, addr, flags, thread);
+            return self.read_fault(by, addr, flags, thread);
         }
-        if self.unread_faults(name) > later {
+        if self.unread_faults(by.name) > later {
             return Ok(false);
         }
-        self.read_event(name, message)
+        self.read_event(by.name, message)
     }
 
     /// Messages are read in turn.
-    fn read_messages(
-        &mut self,
-        key: u64,
-        name: u64,
-        object: Object,
-        messages: &[Message],
-    ) -> Result<bool, NoMemory>
+    fn read_messages(&mut self, by: Reading, messages: &[Message]) -> Result<bool, NoMemory>
         requires { AreTables self.old }
         ensures tables { AreTables self.new }
         ensures step { IfOk result (λ made.
-            reads.messages_taken (kernel_of self.old) key name object messages.now ≡
+            reads.messages_taken (kernel_of self.old) by.key by.reader by.name by.object
+            messages.now ≡
             allowed made (kernel_of self.new)) }
     {
         for i in 0..messages.len() {
             let later = count_faults(&messages[i + 1..]);
-            if !self.read_message(key, name, object, messages[i], later)? {
+            if !self.read_message(by, messages[i], later)? {
                 return Ok(false);
             }
         }
         Ok(true)
+    }
+
+    /// The first of the last `left` messages is read, if there is one.
+    pub(crate) fn read_one(
+        &mut self,
+        by: Reading,
+        messages: &[Message],
+        left: usize,
+    ) -> Result<bool, NoMemory>
+        requires { AreTables self.old }
+        ensures tables { AreTables self.new }
+        ensures step { IfOk result (λ made.
+            reads.first_taken (kernel_of self.old) by.key by.reader by.name by.object
+            (drop (length messages.now - left) messages.now) ≡
+            allowed made (kernel_of self.new)) }
+    {
+        let i = messages.len().saturating_sub(left);
+        if i >= messages.len() {
+            return Ok(false);
+        }
+        let later = count_faults(&messages[i + 1..]);
+        self.read_message(by, messages[i], later)
     }
 
     /// Whether read(2) may fail so.
@@ -478,12 +530,10 @@ impl KernelTable {
         }
     }
 
-    /// read(2). `key` is the number of the call in the log.
+    /// read(2).
     pub(crate) fn reads(
         &mut self,
-        key: u64,
-        name: u64,
-        object: Object,
+        by: Reading,
         room: Option<u64>,
         messages: &[Message],
         answer: Answer,
@@ -491,19 +541,19 @@ impl KernelTable {
         requires { AreTables self.old }
         ensures tables { AreTables self.new }
         ensures step { IfOk result (λ made.
-            reads.read (kernel_of self.old) key name object room messages.now answer ≡
+            reads.read (kernel_of self.old) by.key by.reader by.name by.object
+            room messages.now answer ≡
             allowed made (kernel_of self.new)) }
     {
         match answer {
-            Answer::Value(count) => {
-                let is_of = count == messages.len() as u64 && count > 0;
-                if !is_enabled(object) || !is_of || !has_room_for(count, room) {
+            Answer::Value(_) => {
+                if !may_return(by.object, room, messages, answer) {
                     return Ok(false);
                 }
-                self.read_messages(key, name, object, messages)
+                self.read_messages(by, messages)
             }
             Answer::Failed { errno, .. } => {
-                Ok(messages.is_empty() && self.may_fail_to_read(name, object, room, errno))
+                Ok(messages.is_empty() && self.may_fail_to_read(by.name, by.object, room, errno))
             }
             _ => Ok(false),
         }

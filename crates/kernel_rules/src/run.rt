@@ -2,11 +2,14 @@
 
 use uffd_log::{Answer, Call, Message};
 
-/// A call: its number in the log, the address space that it changes, and whether it closes the last descriptor of its object.
+/// A call: its number in the log, the address space that it changes, its thread, and whether it closes the last descriptor of its object.
+/// `program` is the line where its process began, or began another program; 0 where the log does not have it.
 #[derive(Clone, Copy, PartialEq, Eq)]
 pub struct Made {
     pub key: u32,
     pub space: u32,
+    pub thread: u32,
+    pub program: u32,
     pub call: Call,
     pub last: bool,
 }
@@ -44,6 +47,22 @@ pub enum Move {
         key: u32,
         at: usize,
     },
+    /// A call that fills pages takes effect as one that was refused since the address space is changing, with the ending in entry `at`: EAGAIN,
+    /// whatever the result field of that has.
+    Refuses {
+        key: u32,
+        at: usize,
+    },
+    /// A read begins to take the messages of the ending in entry `at`, one after another.
+    Starts {
+        key: u32,
+        at: usize,
+    },
+    /// Such a read takes the next of them.
+    Reads {
+        key: u32,
+        at: usize,
+    },
     /// A thread finds that it has to wait at a page.
     Sees {
         thread: u64,
@@ -66,6 +85,11 @@ pub enum Move {
     /// A map call clears its pages.
     Clears {
         key: u32,
+    },
+    /// The kernel takes back a page of an object, for which MADV_FREE was called.
+    Drops {
+        object: u64,
+        page: u64,
     },
     /// A UFFDIO_WRITEPROTECT that is under way protects this page of its range, and the others later.
     Protects {

@@ -13,10 +13,8 @@ ghost use Rattle.kernel_rules.specs.Held.{kernel_of, AreTables};
 
 use crate::arguments::asked_for;
 use crate::calling::{Span, Told, Untold};
-use crate::change::Change;
 use crate::closes::is_own;
 use crate::kernel_table::KernelTable;
-use crate::known::Presence;
 use crate::object::Registration;
 use crate::page_test::PageTest;
 use mig_base::{NoMemory, PAGE_SIZE};
@@ -416,7 +414,7 @@ impl KernelTable {
         remove_spans(&mut self.clears, key);
     }
 
-    /// A call clears its pages, once its events are read. False where no rule allows that, and nothing has changed then.
+    /// A call clears its pages, or frees them, once its events are read. False where no rule allows that, and nothing has changed then.
     pub fn clears(&mut self, key: u64) -> Result<bool, NoMemory>
         requires { AreTables self.old }
         ensures tables { AreTables self.new }
@@ -431,8 +429,7 @@ impl KernelTable {
         }
         self.drop_clears(key);
         let count = span.end.saturating_sub(span.first);
-        let presence = Presence::Missing;
-        self.change(span.space, span.first, count, Change::Clear { presence })?;
+        self.clear(span.space, span.first, count, span.frees)?;
         Ok(true)
     }
 

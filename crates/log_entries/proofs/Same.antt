@@ -78,11 +78,11 @@ last_same a b e =
     elim a.last as (λ x. mades.ghosts.eq (record a { last = x }) b ≡ true → x ≡ b.last) [
       | true ↦ λ f. elim b.last as (λ y. mades.ghosts.eq (record a { last = true }) (record b { last = y }) ≡ true → true ≡ y) [
         | true ↦ λ g. refl
-        | false ↦ λ g. let p = and_parts (a.key == b.key) _ g in let q = and_parts (a.space == b.space) _ p.1 in let r = and_parts (calls.ghosts.eq a.call b.call) _ q.1 in absurd (true≢false (sym r.1))
+        | false ↦ λ g. let p = and_parts (a.key == b.key) _ g in let q = and_parts (a.space == b.space) _ p.1 in let t = and_parts (a.thread == b.thread) _ q.1 in let g = and_parts (a.program == b.program) _ t.1 in let r = and_parts (calls.ghosts.eq a.call b.call) _ g.1 in absurd (true≢false (sym r.1))
       ] f
       | false ↦ λ f. elim b.last as (λ y. mades.ghosts.eq (record a { last = false }) (record b { last = y }) ≡ true → false ≡ y) [
         | false ↦ λ g. refl
-        | true ↦ λ g. let p = and_parts (a.key == b.key) _ g in let q = and_parts (a.space == b.space) _ p.1 in let r = and_parts (calls.ghosts.eq a.call b.call) _ q.1 in absurd (true≢false (sym r.1))
+        | true ↦ λ g. let p = and_parts (a.key == b.key) _ g in let q = and_parts (a.space == b.space) _ p.1 in let t = and_parts (a.thread == b.thread) _ q.1 in let g = and_parts (a.program == b.program) _ t.1 in let r = and_parts (calls.ghosts.eq a.call b.call) _ g.1 in absurd (true≢false (sym r.1))
       ] f
     ] e
 
@@ -90,7 +90,13 @@ pub made_same : (a b : Made) → mades.ghosts.eq a b ≡ true → a ≡ b
 made_same a b e =
     let p = and_parts (a.key == b.key) _ e in
     let q = and_parts (a.space == b.space) _ p.1 in
-    let r = and_parts (calls.ghosts.eq a.call b.call) _ q.1 in
-    let made : ℕ → ℕ → Call → Bool → Made = λ k s c l. record { key = k; space = s; call = c; last = l } in
-    ap (λ (k : ℕ). made k a.space a.call a.last) (eqb-true a.key b.key p.0) ∙ ap (λ (s : ℕ). made b.key s a.call a.last) (eqb-true a.space b.space q.0)
-    ∙ ap (λ (c : Call). made b.key b.space c a.last) (call_same a.call b.call r.0) ∙ ap (λ (l : Bool). made b.key b.space b.call l) (last_same a b e)
+    let t = and_parts (a.thread == b.thread) _ q.1 in
+    let g = and_parts (a.program == b.program) _ t.1 in
+    let r = and_parts (calls.ghosts.eq a.call b.call) _ g.1 in
+    let made : ℕ → ℕ → ℕ → ℕ → Call → Bool → Made = λ k s h p c l. record { key = k; space = s; thread = h; program = p; call = c; last = l } in
+    ap (λ (k : ℕ). made k a.space a.thread a.program a.call a.last) (eqb-true a.key b.key p.0)
+    ∙ ap (λ (s : ℕ). made b.key s a.thread a.program a.call a.last) (eqb-true a.space b.space q.0)
+    ∙ ap (λ (h : ℕ). made b.key b.space h a.program a.call a.last) (eqb-true a.thread b.thread t.0)
+    ∙ ap (λ (n : ℕ). made b.key b.space b.thread n a.call a.last) (eqb-true a.program b.program g.0)
+    ∙ ap (λ (c : Call). made b.key b.space b.thread b.program c a.last) (call_same a.call b.call r.0)
+    ∙ ap (λ (l : Bool). made b.key b.space b.thread b.program b.call l) (last_same a b e)

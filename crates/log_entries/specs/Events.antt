@@ -77,17 +77,28 @@ abbrev pub said_of : Event → Event
 said_of (begins made) = begins (said made)
 said_of (ends key out) = ends key out
 
--- a call as its line says it, under the number of that line
-abbrev pub made_by : ℕ → Stamp → Call → Made
-made_by number stamp c = record { key = number; space = stamp.pid; call = c; last = false }
+-- whether a process begins with a line, as a copy, or begins another program
+abbrev pub is_new_program : ℕ → Line → Bool
+is_new_program pid (line.Started stamp parent) = stamp.pid == pid
+is_new_program pid (line.Forked stamp parent) = stamp.pid == pid
+is_new_program pid _ = false
 
--- userfaultfd(2) with O_NONBLOCK, which a line does not show that meets its object first
+-- the last such line of a process, by its number; 0 where there is none. `above` has the lines that were read, the last first
+abbrev pub program_of : List LogLine → ℕ → ℕ
+program_of [] pid = 0
+program_of (one ∷ above) pid = if is_new_program pid one.line then one.number else program_of above pid
+
+-- a call as its line says it, under the number of that line, by the program that its process runs
+abbrev pub made_by : ℕ → Stamp → ℕ → Call → Made
+made_by number stamp program c = record { key = number; space = stamp.pid; thread = stamp.tid; program = program; call = c; last = false }
+
+-- userfaultfd(2) with O_NONBLOCK, which a line does not show that meets its object first: no line says which program made it
 abbrev pub opening : ℕ → Stamp → Descriptor → List Event
-opening number stamp on = begins (made_by number stamp (call.Open false 2048)) ∷ ends number (record { answer = answer.Opened on; messages = []; runs = [] }) ∷ []
+opening number stamp on = begins (made_by number stamp 0 (call.Open false 2048)) ∷ ends number (record { answer = answer.Opened on; messages = []; runs = [] }) ∷ []
 
 -- the events of a line. A call ends that has begun above it, and no line is lost. An object that was found may have been opened there
 abbrev pub AreOwn : List LogLine → ℕ → Line → List Event → Type 0
-AreOwn above number (line.Begin stamp n c) own = own ≡ begins (said (made_by number stamp c)) ∷ []
+AreOwn above number (line.Begin stamp n c) own = own ≡ begins (said (made_by number stamp (program_of above stamp.pid) c)) ∷ []
 AreOwn above number (line.End stamp n a) own =
     (first : LogLine) × (rest : List LogLine) × (lines_of above stamp.pid n ≡ first ∷ rest) × (own ≡ ends first.number (outcome_from (first ∷ rest) a) ∷ [])
 AreOwn above number (line.Found stamp on) own = (own ≡ []) ⊎ (own ≡ opening number stamp on)

@@ -26,7 +26,7 @@ IsPart span items = span.first + span.count ≤ length items
 
 -- the call of a slot whose shape is in no table
 abbrev pub no_shape : Made
-no_shape = record { key = 0; space = 0; call = call.Fork; last = false }
+no_shape = record { key = 0; space = 0; thread = 0; program = 0; call = call.Fork; last = false }
 
 -- the event of a slot
 abbrev pub event_in : Tables → Slot → Event

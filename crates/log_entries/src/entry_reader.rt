@@ -1,14 +1,15 @@
 //! Reading events from the lines of a log.
 
-ghost use Rattle.std.specs.Prelude.{◌≡◌, ◌++◌, ◌∷◌, [], List, true, not, filter_map, IfOk, OnOk};
+ghost use Rattle.std.specs.Prelude.{◌≡◌, ◌==◌, ◌++◌, ◌∷◌, [], ℕ, List, true, not, filter_map, if◌then◌else◌, IfOk, OnOk};
 ghost use Rattle.mig_base.specs.Tests.{is_empty};
 ghost use Rattle.uffd_log.specs.declared.line.Line.TheVariants as line;
 ghost use Rattle.log_entries.specs.declared.log_line.LogLine.{LogLine as LogLineOf};
-ghost use Rattle.log_entries.specs.Events.{is_of, is_read_line, made_by, message_in, run_in};
-ghost use Rattle.log_entries.specs.Readers.{others, own, HasRead};
+ghost use Rattle.log_entries.specs.Events.{is_new_program, is_of, is_read_line, made_by, message_in, run_in};
+ghost use Rattle.log_entries.specs.Readers.{others, own, program_in, HasRead};
 
 use crate::log_line::{LogLine, is_of, message_in, run_in};
 use crate::store::EntryStore;
+use indexmap::IndexMap;
 use kernel_rules::{Made, Run};
 use mig_base::NoMemory;
 use std::alloc::Global;
@@ -23,6 +24,8 @@ pub struct EntryReader {
     pub entries: EntryStore,
     /// The lines of the calls that have begun and not ended.
     pub kept: Vec<LogLine>,
+    /// The lines where processes began, or began another program, by their numbers.
+    pub programs: IndexMap<u32, u32>,
     /// Whether each call that ends has begun, and no line was lost.
     pub whole: bool,
 }
@@ -85,13 +88,15 @@ fn runs_in(alloc: Global, lines: &[LogLine]) -> Result<Vec<Run>, NoMemory>
     Ok(found)
 }
 
-/// A call as its line says it.
-fn made_by(number: u32, stamp: Stamp, call: Call) -> Made
-    ensures { result ≡ made_by number stamp call }
+/// A call as its line says it, by a program.
+fn made_by(number: u32, stamp: Stamp, program: u32, call: Call) -> Made
+    ensures { result ≡ made_by number stamp program call }
 {
     Made {
         key: number,
         space: stamp.pid,
+        thread: stamp.tid,
+        program,
         call,
         last: false,
     }
@@ -105,6 +110,7 @@ impl EntryReader {
         EntryReader {
             entries: EntryStore::new(alloc),
             kept: Vec::new(alloc),
+            programs: IndexMap::new(alloc),
             whole: true,
         }
     }
@@ -120,15 +126,48 @@ impl EntryReader {
         }
     }
 
+    /// The program that a process runs, by the line where it began; 0 where there is none.
+    fn program(&self, pid: u32) -> u32
+        ensures { result ≡ program_in self.now pid }
+    {
+        match self.programs.get(&pid) {
+            Some(number) => *number,
+            None => 0,
+        }
+    }
+
+    /// Notes the program that a process runs.
+    fn note_program(&mut self, pid: u32, number: u32) -> Result<(), NoMemory>
+        ensures noted { OnOk result ((other : ℕ) → program_in self.new other ≡
+            (if pid == other then number else program_in self.old other)) }
+        ensures same { self.new ≡ record self.old { programs = self.new.programs } }
+    {
+        match self.programs.insert(pid, number) {
+            Ok(_) => Ok(()),
+            Err(_) => Err(NoMemory),
+        }
+    }
+
+    /// A process begins, or begins another program.
+    fn renew(&mut self, one: LogLine, pid: u32) -> Result<(), NoMemory>
+        requires { is_new_program pid one.line ≡ true }
+        ensures { OnOk result ((lines : List LogLineOf) →
+            HasRead lines self.old → HasRead (lines ++ one ∷ []) self.new) }
+    {
+        self.note_program(pid, one.number)
+    }
+
     /// A call begins.
     fn begin(&mut self, one: LogLine, stamp: Stamp, number: u64, call: Call) -> Result<(), NoMemory>
         requires { one.line ≡ line.Begin stamp number call }
         ensures { OnOk result ((lines : List LogLineOf) →
             HasRead lines self.old → HasRead (lines ++ one ∷ []) self.new) }
     {
+        let program = self.program(stamp.pid);
         remove_lines(&mut self.kept, stamp.pid, number);
         self.keep(one)?;
-        self.entries.push_begin(made_by(one.number, stamp, call))
+        self.entries
+            .push_begin(made_by(one.number, stamp, program, call))
     }
 
     /// A call ends. It has begun, or lines are missing.
@@ -188,7 +227,8 @@ impl EntryReader {
             device: false,
             flags: NONBLOCK,
         };
-        self.entries.push_begin(made_by(one.number, stamp, call))?;
+        self.entries
+            .push_begin(made_by(one.number, stamp, 0, call))?;
         self.entries
             .push_end(one.number, Answer::Opened(on), &[], &[])
     }
@@ -217,8 +257,9 @@ impl EntryReader {
                 self.whole = false;
                 Ok(())
             }
-            Line::Dropped { .. } | Line::Started { .. } | Line::Forked { .. } | Line::Exit { .. } =>
-                { Ok(()) }
+            Line::Started { stamp, .. } => self.renew(one, stamp.pid),
+            Line::Forked { stamp, .. } => self.renew(one, stamp.pid),
+            Line::Dropped { .. } | Line::Exit { .. } => Ok(()),
         }
     }
 

@@ -23,7 +23,7 @@ static TWICE: [&'static [u8]; 19] = [
     b"1300 70 70 begin 2 api 8:5 0xaa 0x100",
     b"1400 70 70 end 2 ok 0x1ffff 0x8000000000000003",
     b"1500 70 70 begin 3 register 8:5 0x7f0000000000 0x2000 0x1",
-    b"1600 70 70 end 3 ok 0x15c",
+    b"1600 70 70 end 3 ok 0x13c",
     b"1700 70 70 begin 4 scan 8:5 0x7f0000000000 0x2000",
     b"1900 70 70 end 4 ok 0",
     b"2000 70 71 begin 5 read 8:5 32",
@@ -176,10 +176,60 @@ static STRESS_RUN: [Move; 46] = [
     Move::Line,
 ];
 
-/// A change of a line of `TWICE`, one of a step of its run, and what is found then.
+/// A MADV_FREE over two ranges, and a read that takes the REMOVE of each.
+static FREED: [&'static [u8]; 16] = [
+    b"1100 70 70 begin 1 open syscall 0x80800",
+    b"1200 70 70 end 1 ok 8:5",
+    b"1300 70 70 begin 2 api 8:5 0xaa 0x4c",
+    b"1400 70 70 end 2 ok 0x1ffff 0x8000000000000003",
+    b"1500 70 70 begin 3 register 8:5 0x7f0000000000 0x1000 0x1",
+    b"1600 70 70 end 3 ok 0x13c",
+    b"1700 70 70 begin 4 register 8:5 0x7f0000002000 0x1000 0x1",
+    b"1800 70 70 end 4 ok 0x13c",
+    b"1900 70 70 begin 5 madvise 0x7f0000000000 0x3000 8",
+    b"2000 70 71 begin 6 read 8:5 64",
+    b"2100 70 71 message 6 remove 0x7f0000000000 0x7f0000001000",
+    b"2200 70 71 message 6 remove 0x7f0000002000 0x7f0000003000",
+    b"2300 70 71 end 6 ok 2",
+    b"2400 70 70 end 5 ok",
+    b"2500 70 70 begin 7 zeropage 8:5 0x7f0000000000 0x1000 0x0",
+    b"2600 70 70 end 7 ok 4096",
+];
+
+/// The run of `FREED`: the second REMOVE is queued once the read has taken the first.
+static FREED_RUN: [Move; 26] = [
+    Move::Line,
+    Move::Effect { key: 1, at: 1 },
+    Move::Line,
+    Move::Line,
+    Move::Effect { key: 2, at: 3 },
+    Move::Line,
+    Move::Line,
+    Move::Effect { key: 3, at: 5 },
+    Move::Line,
+    Move::Line,
+    Move::Effect { key: 4, at: 7 },
+    Move::Line,
+    Move::Line,
+    Move::Line,
+    Move::Effect { key: 5, at: 11 },
+    Move::Tells { key: 5 },
+    Move::Starts { key: 6, at: 10 },
+    Move::Reads { key: 6, at: 10 },
+    Move::Tells { key: 5 },
+    Move::Reads { key: 6, at: 10 },
+    Move::Line,
+    Move::Clears { key: 5 },
+    Move::Line,
+    Move::Line,
+    Move::Effect { key: 7, at: 13 },
+    Move::Line,
+];
+
+/// A change of a line of a log, one of a step of its run, and what is found then.
 type Case = (Changed<&'static [u8]>, Changed<Move>, Option<Found>);
 
-static CASES: [Case; 16] = [
+static CASES: [Case; 18] = [
     // one difference, a page that was never put, and a copy of a page that is there
     (None, None, Some((1, 1, 1, 0))),
     // with the three events nothing differs
@@ -212,6 +262,10 @@ static CASES: [Case; 16] = [
         None,
         None,
     ),
+    // a thread reads its own page fault
+    (Some((8, b"2000 70 72 begin 5 read 8:5 32")), None, None),
+    // the memory of the process that makes the call is gone
+    (Some((13, b"2500 70 70 end 7 ESRCH")), None, None),
     // a feature that is not offered
     (Some((3, b"1400 70 70 end 2 ok 0xff 0x0")), None, None),
     // UFFD_FEATURE_EVENT_FORK, which the model does not have
@@ -250,6 +304,46 @@ static CASES: [Case; 16] = [
     ),
 ];
 
+/// Cases of `FREED`.
+static FREED_CASES: [Case; 9] = [
+    // two REMOVEs in place of one, and pages that may be taken back are not owed
+    (None, None, Some((2, 0, 0, 0))),
+    // one that is cleared is, and the other is put
+    (
+        Some((8, b"1900 70 70 begin 5 madvise 0x7f0000000000 0x3000 4")),
+        None,
+        Some((2, 1, 0, 0)),
+    ),
+    // nobody asked for REMOVE
+    (
+        Some((2, b"1300 70 70 begin 2 api 8:5 0xaa 0x44")),
+        None,
+        None,
+    ),
+    // the room of one message
+    (Some((9, b"2000 70 71 begin 6 read 8:5 32")), None, None),
+    // one message fewer than were read
+    (Some((12, b"2300 70 71 end 6 ok 1")), None, None),
+    // the read takes both at one time
+    (None, Some((16, Move::Effect { key: 6, at: 10 })), None),
+    // it takes the message of another call
+    (None, Some((17, Move::Reads { key: 6, at: 11 })), None),
+    // it ends before its last message
+    (None, Some((18, Move::Line)), None),
+    // the call returns before its pages may be taken back
+    (
+        None,
+        Some((
+            21,
+            Move::Drops {
+                object: 8,
+                page: 0x7f0000000,
+            },
+        )),
+        None,
+    ),
+];
+
 /// Adds a value to a list.
 fn add<T: Drop>(list: &mut Vec<T>, value: T) -> Result<(), NoMemory> {
     match list.push(value) {
@@ -265,11 +359,19 @@ fn entries(alloc: Global, texts: &[&'static [u8]]) -> Result<Vec<Entry>, NoMemor
     let (mut messages, mut runs): (Vec<Message>, Vec<Run>) = (Vec::new(alloc), Vec::new(alloc));
     for text in texts {
         match parse(&mut tokens, text)? {
-            Some(Line::Begin { number, call, .. }) => add(
+            Some(
+                Line::Begin {
+                    stamp,
+                    number,
+                    call,
+                },
+            ) => add(
                 &mut log,
                 Entry::Begins(Made {
                     key: u32::try_from(number).unwrap_or(0),
                     space: 1,
+                    thread: stamp.tid,
+                    program: 1,
                     call,
                     last: true,
                 }),
@@ -332,19 +434,36 @@ fn found(alloc: Global, texts: &[&'static [u8]], run: &[Move]) -> Result<Option<
     )))
 }
 
-/// What is found of a case of `TWICE`.
-fn found_of(alloc: Global, case: Case) -> Result<Option<Found>, NoMemory> {
-    let texts = changed(alloc, &TWICE, case.0)?;
-    let run = changed(alloc, &TWICE_RUN, case.1)?;
+/// What is found of a case of a log and its run.
+fn found_of(
+    alloc: Global,
+    texts: &[&'static [u8]],
+    run: &[Move],
+    case: Case,
+) -> Result<Option<Found>, NoMemory> {
+    let texts = changed(alloc, texts, case.0)?;
+    let run = changed(alloc, run, case.1)?;
     found(alloc, &texts, &run)
 }
 
 #[test]
 fn runs_of_logs(rt: HostRuntime) -> Result<(), Fail> {
     for (i, case) in CASES.iter().enumerate() {
-        let mut is = found_of(rt.alloc(), *case);
+        let mut is = found_of(rt.alloc(), &TWICE, &TWICE_RUN, *case);
         if is.is_err() {
-            is = found_of(rt.alloc(), *case);
+            is = found_of(rt.alloc(), &TWICE, &TWICE_RUN, *case);
+        }
+        assert_eq!(&rt; is, Ok(case.2), "case {i}");
+    }
+    Ok(())
+}
+
+#[test]
+fn a_read_in_turn(rt: HostRuntime) -> Result<(), Fail> {
+    for (i, case) in FREED_CASES.iter().enumerate() {
+        let mut is = found_of(rt.alloc(), &FREED, &FREED_RUN, *case);
+        if is.is_err() {
+            is = found_of(rt.alloc(), &FREED, &FREED_RUN, *case);
         }
         assert_eq!(&rt; is, Ok(case.2), "case {i}");
     }

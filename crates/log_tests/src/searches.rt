@@ -6,11 +6,11 @@ use std::test::Fail;
 
 /// An object that asks for no thread's number, and two pages of it, of which none is present.
 const PLAIN: &[u8] =
-    b"1 70 70 started 69 ./monitor\n1 70 70 begin 1 open syscall 0x800\n1 70 70 end 1 ok 8:5\n1 70 70 begin 2 api 8:5 0xaa 0x0\n1 70 70 end 2 ok 0x1ffff 0x8000000000000003\n1 70 70 begin 3 register 8:5 0x10000 0x2000 0x1\n1 70 70 end 3 ok 0x17c\n1 70 70 begin 4 scan 8:5 0x10000 0x2000\n1 70 70 end 4 ok 0\n";
+    b"1 70 70 started 69 ./monitor\n1 70 70 begin 1 open syscall 0x800\n1 70 70 end 1 ok 8:5\n1 70 70 begin 2 api 8:5 0xaa 0x0\n1 70 70 end 2 ok 0x1ffff 0x8000000000000003\n1 70 70 begin 3 register 8:5 0x10000 0x2000 0x1\n1 70 70 end 3 ok 0x13c\n1 70 70 begin 4 scan 8:5 0x10000 0x2000\n1 70 70 end 4 ok 0\n";
 
 /// The same, and it asks for events.
 const EVENTS: &[u8] =
-    b"1 70 70 started 69 ./monitor\n1 70 70 begin 1 open syscall 0x800\n1 70 70 end 1 ok 8:5\n1 70 70 begin 2 api 8:5 0xaa 0x4c\n1 70 70 end 2 ok 0x1ffff 0x8000000000000003\n1 70 70 begin 3 register 8:5 0x10000 0x2000 0x1\n1 70 70 end 3 ok 0x17c\n1 70 70 begin 4 scan 8:5 0x10000 0x2000\n1 70 70 end 4 ok 0\n";
+    b"1 70 70 started 69 ./monitor\n1 70 70 begin 1 open syscall 0x800\n1 70 70 end 1 ok 8:5\n1 70 70 begin 2 api 8:5 0xaa 0x4c\n1 70 70 end 2 ok 0x1ffff 0x8000000000000003\n1 70 70 begin 3 register 8:5 0x10000 0x2000 0x1\n1 70 70 end 3 ok 0x13c\n1 70 70 begin 4 scan 8:5 0x10000 0x2000\n1 70 70 end 4 ok 0\n";
 
 /// The same, and it asks for faults of write-protected pages.
 const PROTECTS: &[u8] =
@@ -22,7 +22,7 @@ const MOVES: &[u8] =
 
 /// The same, and it asks for UFFD_EVENT_REMOVE.
 const REMOVES: &[u8] =
-    b"1 70 70 started 69 ./monitor\n1 70 70 begin 1 open syscall 0x800\n1 70 70 end 1 ok 8:5\n1 70 70 begin 2 api 8:5 0xaa 0x8\n1 70 70 end 2 ok 0x1ffff 0x8000000000000003\n1 70 70 begin 3 register 8:5 0x10000 0x2000 0x1\n1 70 70 end 3 ok 0x17c\n1 70 70 begin 4 scan 8:5 0x10000 0x2000\n1 70 70 end 4 ok 0\n";
+    b"1 70 70 started 69 ./monitor\n1 70 70 begin 1 open syscall 0x800\n1 70 70 end 1 ok 8:5\n1 70 70 begin 2 api 8:5 0xaa 0x8\n1 70 70 end 2 ok 0x1ffff 0x8000000000000003\n1 70 70 begin 3 register 8:5 0x10000 0x2000 0x1\n1 70 70 end 3 ok 0x13c\n1 70 70 begin 4 scan 8:5 0x10000 0x2000\n1 70 70 end 4 ok 0\n";
 
 /// What an object is registered for, the calls after it, what is said of the log, and what is written.
 static LOGS: [(&'static [u8], &'static [u8], Verdict, &'static [u8]); 32] = [
@@ -93,7 +93,7 @@ static LOGS: [(&'static [u8], &'static [u8], Verdict, &'static [u8]); 32] = [
     // Two objects of two processes, with a thread at one page of each.
     (
         PLAIN,
-        b"1 72 72 started 69 ./monitor\n1 72 72 begin 1 open syscall 0x800\n1 72 72 end 1 ok 9:5\n1 72 72 begin 2 api 9:5 0xaa 0x0\n1 72 72 end 2 ok 0x1ffff 0x8000000000000003\n1 72 72 begin 3 register 9:5 0x10000 0x1000 0x1\n1 72 72 end 3 ok 0x17c\n1 70 70 begin 5 read 8:5 32\n1 70 70 message 5 fault 0x10000 0 0\n1 70 70 end 5 ok 1\n1 72 72 begin 4 read 9:5 32\n1 72 72 message 4 fault 0x10000 0 0\n1 72 72 end 4 ok 1\n1 70 70 begin 6 copy 8:5 0x10000 0x7000 0x2000 0x0\n1 70 70 end 6 ok 8192\n1 72 72 begin 5 copy 9:5 0x10000 0x7000 0x1000 0x0\n1 72 72 end 5 ok 4096\n",
+        b"1 72 72 started 69 ./monitor\n1 72 72 begin 1 open syscall 0x800\n1 72 72 end 1 ok 9:5\n1 72 72 begin 2 api 9:5 0xaa 0x0\n1 72 72 end 2 ok 0x1ffff 0x8000000000000003\n1 72 72 begin 3 register 9:5 0x10000 0x1000 0x1\n1 72 72 end 3 ok 0x13c\n1 70 70 begin 5 read 8:5 32\n1 70 70 message 5 fault 0x10000 0 0\n1 70 70 end 5 ok 1\n1 72 72 begin 4 read 9:5 32\n1 72 72 message 4 fault 0x10000 0 0\n1 72 72 end 4 ok 1\n1 70 70 begin 6 copy 8:5 0x10000 0x7000 0x2000 0x0\n1 70 70 end 6 ok 8192\n1 72 72 begin 5 copy 9:5 0x10000 0x7000 0x1000 0x0\n1 72 72 end 5 ok 4096\n",
         Verdict::Certified,
         b"11 calls: 9 with the only answer that the rules allow, 2 that an access explains which the log does not show, 0 for which no run was found, 0 not judged\ncertified: the kernel's answers, which a kernel of the rules may have given; pages known to be missing 0, put twice 0, of which nothing is known 0\npage faults that waited until a call woke their thread: 2, the longest 0.0 us, read at line 23, woken at line 30\n",
     ),
@@ -198,14 +198,14 @@ static LOGS: [(&'static [u8], &'static [u8], Verdict, &'static [u8]); 32] = [
     // Two processes with one address, and a child that shares the memory of the one whose object it has found.
     (
         PLAIN,
-        b"1 72 72 forked 70\n1 72 72 begin 1 open syscall 0x800\n1 72 72 end 1 ok 9:6\n1 72 72 begin 2 api 9:6 0xaa 0x0\n1 72 72 end 2 ok 0x1ffff 0x8000000000000003\n1 72 72 begin 3 register 9:6 0x10000 0x2000 0x1\n1 72 72 end 3 ok 0x17c\n1 72 72 begin 4 copy 9:6 0x10000 0x7000 0x2000 0x0\n1 72 72 end 4 ok 8192\n1 70 70 begin 5 copy 8:5 0x10000 0x7000 0x2000 0x0\n1 70 70 end 5 ok 8192\n1 73 73 found 9:6\n1 73 73 begin 6 madvise 0x10000 0x1000 0x4\n1 73 73 end 6 ok\n1 72 72 begin 7 copy 9:6 0x10000 0x7000 0x1000 0x0\n1 72 72 end 7 ok 4096\n",
+        b"1 72 72 forked 70\n1 72 72 begin 1 open syscall 0x800\n1 72 72 end 1 ok 9:6\n1 72 72 begin 2 api 9:6 0xaa 0x0\n1 72 72 end 2 ok 0x1ffff 0x8000000000000003\n1 72 72 begin 3 register 9:6 0x10000 0x2000 0x1\n1 72 72 end 3 ok 0x13c\n1 72 72 begin 4 copy 9:6 0x10000 0x7000 0x2000 0x0\n1 72 72 end 4 ok 8192\n1 70 70 begin 5 copy 8:5 0x10000 0x7000 0x2000 0x0\n1 70 70 end 5 ok 8192\n1 73 73 found 9:6\n1 73 73 begin 6 madvise 0x10000 0x1000 0x4\n1 73 73 end 6 ok\n1 72 72 begin 7 copy 9:6 0x10000 0x7000 0x1000 0x0\n1 72 72 end 7 ok 4096\n",
         Verdict::Certified,
         b"11 calls: 10 with the only answer that the rules allow, 1 that an access explains which the log does not show, 0 for which no run was found, 0 not judged\ncertified: the kernel's answers, which a kernel of the rules may have given; pages known to be missing 0, put twice 0, of which nothing is known 0\n",
     ),
     // It has found the other's.
     (
         PLAIN,
-        b"1 72 72 forked 70\n1 72 72 begin 1 open syscall 0x800\n1 72 72 end 1 ok 9:6\n1 72 72 begin 2 api 9:6 0xaa 0x0\n1 72 72 end 2 ok 0x1ffff 0x8000000000000003\n1 72 72 begin 3 register 9:6 0x10000 0x2000 0x1\n1 72 72 end 3 ok 0x17c\n1 72 72 begin 4 copy 9:6 0x10000 0x7000 0x2000 0x0\n1 72 72 end 4 ok 8192\n1 70 70 begin 5 copy 8:5 0x10000 0x7000 0x2000 0x0\n1 70 70 end 5 ok 8192\n1 73 73 found 8:5\n1 73 73 begin 6 madvise 0x10000 0x1000 0x4\n1 73 73 end 6 ok\n1 72 72 begin 7 copy 9:6 0x10000 0x7000 0x1000 0x0\n1 72 72 end 7 ok 4096\n",
+        b"1 72 72 forked 70\n1 72 72 begin 1 open syscall 0x800\n1 72 72 end 1 ok 9:6\n1 72 72 begin 2 api 9:6 0xaa 0x0\n1 72 72 end 2 ok 0x1ffff 0x8000000000000003\n1 72 72 begin 3 register 9:6 0x10000 0x2000 0x1\n1 72 72 end 3 ok 0x13c\n1 72 72 begin 4 copy 9:6 0x10000 0x7000 0x2000 0x0\n1 72 72 end 4 ok 8192\n1 70 70 begin 5 copy 8:5 0x10000 0x7000 0x2000 0x0\n1 70 70 end 5 ok 8192\n1 73 73 found 8:5\n1 73 73 begin 6 madvise 0x10000 0x1000 0x4\n1 73 73 end 6 ok\n1 72 72 begin 7 copy 9:6 0x10000 0x7000 0x1000 0x0\n1 72 72 end 7 ok 4096\n",
         Verdict::Unexplained,
         b"log:30: unexplained: object 9: no run was found that gives this answer: copy at 0x10000, thread 72 of process 72, until 1 at line 31: the page is present [unexplained-answer]\n11 calls: 9 with the only answer that the rules allow, 1 that an access explains which the log does not show, 1 for which no run was found, 0 not judged\nnot certified: no run was found\n",
     ),
@@ -244,12 +244,12 @@ static LOGS: [(&'static [u8], &'static [u8], Verdict, &'static [u8]); 32] = [
         Verdict::Certified,
         b"8 calls: 7 with the only answer that the rules allow, 1 that an access explains which the log does not show, 0 for which no run was found, 0 not judged\ncertified: the kernel's answers, which a kernel of the rules may have given; pages known to be missing 0, put twice 0, of which nothing is known 0\npage faults that waited until a call woke their thread: 1, the longest 0.0 us, read at line 17, woken at line 24\n",
     ),
-    // An object for minor faults beside one that is judged.
+    // An object for minor faults beside another one.
     (
         PLAIN,
         b"1 70 70 begin 5 open syscall 0x800\n1 70 70 end 5 ok 9:6\n1 70 70 begin 6 api 9:6 0xaa 0x400\n1 70 70 end 6 ok 0x1ffff 0x8000000000000003\n1 70 70 begin 7 register 9:6 0x20000 0x1000 0x4\n1 70 70 end 7 ok 0x1bc\n1 70 70 begin 8 poll 9:6\n1 70 70 end 8 ok 0x1\n1 70 70 begin 9 read 9:6 32\n1 70 70 message 9 fault 0x20000 4 0\n1 70 70 end 9 ok 1\n1 70 70 begin 10 continue 9:6 0x20000 0x1000 0x0\n1 70 70 end 10 ok 4096\n1 70 70 begin 11 copy 8:5 0x10000 0x7000 0x2000 0x0\n1 70 70 end 11 ok 8192\n",
-        Verdict::Undecided,
-        b"11 calls: 6 with the only answer that the rules allow, 0 that an access explains which the log does not show, 0 for which no run was found, 5 not judged\nnot certified: register of line 20 is not followed\n",
+        Verdict::Certified,
+        b"11 calls: 9 with the only answer that the rules allow, 2 that an access explains which the log does not show, 0 for which no run was found, 0 not judged\ncertified: the kernel's answers, which a kernel of the rules may have given; pages known to be missing 0, put twice 0, of which nothing is known 0\npage faults that waited until a call woke their thread: 1, the longest 0.0 us, read at line 24, woken at line 28\n",
     ),
 ];
 
@@ -262,12 +262,12 @@ static PROTECTIONS: [(&'static [u8], &'static [u8], Verdict, &'static [u8]); 12]
         Verdict::Certified,
         b"10 calls: 8 with the only answer that the rules allow, 2 that an access explains which the log does not show, 0 for which no run was found, 0 not judged\ncertified: the kernel's answers, which a kernel of the rules may have given; pages known to be missing 0, put twice 0, of which nothing is known 0\npage faults that waited until a call woke their thread: 2, the longest 0.0 us, read at line 19, woken at line 29\n",
     ),
-    // The protection has ended before the second page's is taken away.
+    // The protection has ended before the second page's is taken away: a thread has found it before.
     (
         PROTECTS,
         b"1 70 70 begin 5 copy 8:5 0x10000 0x7000 0x2000 0x0\n1 70 70 end 5 ok 8192\n1 70 71 begin 6 writeprotect 8:5 0x10000 0x2000 0x1\n1 70 70 begin 7 read 8:5 32\n1 70 70 message 7 fault 0x10000 3 0\n1 70 70 end 7 ok 1\n1 70 71 end 6 ok\n1 70 70 begin 8 writeprotect 8:5 0x11000 0x1000 0x0\n1 70 70 end 8 ok\n1 70 70 begin 9 read 8:5 32\n1 70 70 message 9 fault 0x11000 3 0\n1 70 70 end 9 ok 1\n1 70 70 begin 10 writeprotect 8:5 0x10000 0x2000 0x0\n1 70 70 end 10 ok\n",
-        Verdict::Unexplained,
-        b"log:25: unexplained: object 8: no run was found that gives this answer: read, thread 70 of process 70, until 1 at line 27: no thread has queued a fault [unexplained-answer]\n10 calls: 8 with the only answer that the rules allow, 1 that an access explains which the log does not show, 1 for which no run was found, 0 not judged\nnot certified: no run was found\npage faults that waited until a call woke their thread: 1, the longest 0.0 us, read at line 19, woken at line 29\n",
+        Verdict::Certified,
+        b"10 calls: 7 with the only answer that the rules allow, 3 that an access explains which the log does not show, 0 for which no run was found, 0 not judged\ncertified: the kernel's answers, which a kernel of the rules may have given; pages known to be missing 0, put twice 0, of which nothing is known 0\npage faults that waited until a call woke their thread: 1, the longest 0.0 us, read at line 19, woken at line 29\n",
     ),
     // The second page is not among those which are being protected.
     (
@@ -276,19 +276,19 @@ static PROTECTIONS: [(&'static [u8], &'static [u8], Verdict, &'static [u8]); 12]
         Verdict::Unexplained,
         b"log:26: unexplained: object 8: no run was found that gives this answer: read, thread 70 of process 70, until 1 at line 28: no thread has queued a fault [unexplained-answer]\n11 calls: 8 with the only answer that the rules allow, 2 that an access explains which the log does not show, 1 for which no run was found, 0 not judged\nnot certified: no run was found\npage faults that waited until a call woke their thread: 1, the longest 0.0 us, read at line 21, woken at line 31\n",
     ),
-    // It is the first page once more, which is protected once.
+    // It is the first page once more, which is protected once: another thread has found it so too.
     (
         PROTECTS,
         b"1 70 70 begin 5 copy 8:5 0x10000 0x7000 0x2000 0x0\n1 70 70 end 5 ok 8192\n1 70 71 begin 6 writeprotect 8:5 0x10000 0x2000 0x1\n1 70 70 begin 7 read 8:5 32\n1 70 70 message 7 fault 0x10000 3 0\n1 70 70 end 7 ok 1\n1 70 70 begin 8 writeprotect 8:5 0x10000 0x1000 0x0\n1 70 70 end 8 ok\n1 70 70 begin 9 read 8:5 32\n1 70 70 message 9 fault 0x10000 3 0\n1 70 70 end 9 ok 1\n1 70 71 end 6 ok\n1 70 70 begin 10 writeprotect 8:5 0x10000 0x2000 0x0\n1 70 70 end 10 ok\n",
-        Verdict::Unexplained,
-        b"log:24: unexplained: object 8: no run was found that gives this answer: read, thread 70 of process 70, until 1 at line 26: no thread has queued a fault [unexplained-answer]\n10 calls: 8 with the only answer that the rules allow, 1 that an access explains which the log does not show, 1 for which no run was found, 0 not judged\nnot certified: no run was found\npage faults that waited until a call woke their thread: 1, the longest 0.0 us, read at line 19, woken at line 23\n",
+        Verdict::Certified,
+        b"10 calls: 7 with the only answer that the rules allow, 3 that an access explains which the log does not show, 0 for which no run was found, 0 not judged\ncertified: the kernel's answers, which a kernel of the rules may have given; pages known to be missing 0, put twice 0, of which nothing is known 0\npage faults that waited until a call woke their thread: 1, the longest 0.0 us, read at line 19, woken at line 23\n",
     ),
     // The same where only that page is being protected.
     (
         PROTECTS,
         b"1 70 70 begin 5 copy 8:5 0x10000 0x7000 0x2000 0x0\n1 70 70 end 5 ok 8192\n1 70 71 begin 6 writeprotect 8:5 0x10000 0x1000 0x1\n1 70 70 begin 7 read 8:5 32\n1 70 70 message 7 fault 0x10000 3 0\n1 70 70 end 7 ok 1\n1 70 70 begin 8 writeprotect 8:5 0x10000 0x1000 0x0\n1 70 70 end 8 ok\n1 70 70 begin 9 read 8:5 32\n1 70 70 message 9 fault 0x10000 3 0\n1 70 70 end 9 ok 1\n1 70 71 end 6 ok\n1 70 70 begin 10 writeprotect 8:5 0x10000 0x2000 0x0\n1 70 70 end 10 ok\n",
-        Verdict::Unexplained,
-        b"log:24: unexplained: object 8: no run was found that gives this answer: read, thread 70 of process 70, until 1 at line 26: no thread has queued a fault [unexplained-answer]\n10 calls: 8 with the only answer that the rules allow, 1 that an access explains which the log does not show, 1 for which no run was found, 0 not judged\nnot certified: no run was found\npage faults that waited until a call woke their thread: 1, the longest 0.0 us, read at line 19, woken at line 23\n",
+        Verdict::Certified,
+        b"10 calls: 7 with the only answer that the rules allow, 3 that an access explains which the log does not show, 0 for which no run was found, 0 not judged\ncertified: the kernel's answers, which a kernel of the rules may have given; pages known to be missing 0, put twice 0, of which nothing is known 0\npage faults that waited until a call woke their thread: 1, the longest 0.0 us, read at line 19, woken at line 23\n",
     ),
     // It faults once.
     (

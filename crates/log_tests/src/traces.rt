@@ -13,7 +13,7 @@ const NAME: &str = "a line 5.txt";
 
 /// A userfault object is opened, its two pages at 0x10000 are registered, and a thread is made.
 const OPENED: &[u8] =
-    b"7 100.000001 execve(\"./monitor\", [\"./monitor\"], 0x7ffc /* 20 vars */) = 0\n7 100.000100 userfaultfd(O_CLOEXEC|O_NONBLOCK) = 5<anon_inode:[userfaultfd]> <0.000010>\n7 100.000200 ioctl(5<anon_inode:[userfaultfd]>, UFFDIO_API, {api=0xaa, features=UFFD_FEATURE_THREAD_ID => features=0x1ffff, ioctls=0x8000000000000003}) = 0 <0.000010>\n7 100.000300 ioctl(5<anon_inode:[userfaultfd]>, UFFDIO_REGISTER, {range={start=0x10000, len=0x2000}, mode=UFFDIO_REGISTER_MODE_MISSING, ioctls=0x15c}) = 0 <0.000010>\n7 100.000400 clone3({flags=CLONE_VM|CLONE_FS|CLONE_FILES|CLONE_SIGHAND|CLONE_THREAD|CLONE_SYSVSEM}, 88) = 8 <0.000010>\n";
+    b"7 100.000001 execve(\"./monitor\", [\"./monitor\"], 0x7ffc /* 20 vars */) = 0\n7 100.000100 userfaultfd(O_CLOEXEC|O_NONBLOCK) = 5<anon_inode:[userfaultfd]> <0.000010>\n7 100.000200 ioctl(5<anon_inode:[userfaultfd]>, UFFDIO_API, {api=0xaa, features=UFFD_FEATURE_THREAD_ID => features=0x1ffff, ioctls=0x8000000000000003}) = 0 <0.000010>\n7 100.000300 ioctl(5<anon_inode:[userfaultfd]>, UFFDIO_REGISTER, {range={start=0x10000, len=0x2000}, mode=UFFDIO_REGISTER_MODE_MISSING, ioctls=0x13c}) = 0 <0.000010>\n7 100.000400 clone3({flags=CLONE_VM|CLONE_FS|CLONE_FILES|CLONE_SIGHAND|CLONE_THREAD|CLONE_SYSVSEM}, 88) = 8 <0.000010>\n";
 
 /// No case writes more bytes.
 const MOST: usize = 1_000;

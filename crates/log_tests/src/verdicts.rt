@@ -12,7 +12,7 @@ const HEAD: &[u8] =
 
 /// An object is opened, and its two pages at 0x10000 are registered, neither of them present.
 const OPENED: &[u8] =
-    b"1 7 7 started 1 ./monitor\n1 7 7 begin 1 open syscall 0x80800\n2 7 7 end 1 ok 8:5\n3 7 7 begin 2 api 8:5 0xaa 0x100\n4 7 7 end 2 ok 0x1ffff 0x8000000000000003\n5 7 7 begin 3 register 8:5 0x10000 0x2000 0x1\n6 7 7 end 3 ok 0x15c\n7 7 7 begin 4 scan 8:5 0x10000 0x2000\n8 7 7 end 4 ok 0\n";
+    b"1 7 7 started 1 ./monitor\n1 7 7 begin 1 open syscall 0x80800\n2 7 7 end 1 ok 8:5\n3 7 7 begin 2 api 8:5 0xaa 0x100\n4 7 7 end 2 ok 0x1ffff 0x8000000000000003\n5 7 7 begin 3 register 8:5 0x10000 0x2000 0x1\n6 7 7 end 3 ok 0x13c\n7 7 7 begin 4 scan 8:5 0x10000 0x2000\n8 7 7 end 4 ok 0\n";
 
 /// No case writes more bytes.
 const MOST: usize = 1_000;
@@ -41,7 +41,7 @@ static LOGS: [(&'static [u8], &'static [u8], Verdict, &'static [u8]); 14] = [
     ),
     // Its object asks for UFFD_EVENT_REMOVE. It is closed while a page is removed, and another one was to be put.
     (
-        b"1 7 7 begin 1 open syscall 0x80800\n2 7 7 end 1 ok 8:5\n3 7 7 begin 2 api 8:5 0xaa 0x8\n4 7 7 end 2 ok 0x1ffff 0x8000000000000003\n5 7 7 begin 3 register 8:5 0x10000 0x2000 0x1\n6 7 7 end 3 ok 0x15c\n7 7 7 begin 4 scan 8:5 0x10000 0x2000\n8 7 7 end 4 ok 0\n9 7 7 begin 5 copy 8:5 0x11000 0x51000 0x1000 0\n10 7 7 end 5 ok 4096\n",
+        b"1 7 7 begin 1 open syscall 0x80800\n2 7 7 end 1 ok 8:5\n3 7 7 begin 2 api 8:5 0xaa 0x8\n4 7 7 end 2 ok 0x1ffff 0x8000000000000003\n5 7 7 begin 3 register 8:5 0x10000 0x2000 0x1\n6 7 7 end 3 ok 0x13c\n7 7 7 begin 4 scan 8:5 0x10000 0x2000\n8 7 7 end 4 ok 0\n9 7 7 begin 5 copy 8:5 0x11000 0x51000 0x1000 0\n10 7 7 end 5 ok 4096\n",
         b"11 7 8 begin 6 madvise 0x11000 0x1000 4\n12 7 7 begin 7 copy 8:5 0x10000 0x50000 0x1000 0\n13 7 7 end 7 EAGAIN -11\n14 7 7 begin 8 close 8:5\n15 7 7 end 8 ok\n16 7 8 end 6 ok\n",
         Verdict::Found,
         b"log:17: fault: object 8: an event of this call was never read: madvise at 0x11000, thread 8 of process 7, until 16 at line 22 [event-not-read]\nlog:18: fault: object 8: EAGAIN, and the page was not tried again: copy at 0x10000, thread 7 of process 7, until 13 at line 19 [not-tried-again]\nlog:20: note: object 8: registered pages are still missing: close at 0x10000, process 7, until 15 at line 21 [page-owed]\n8 calls: 8 with the only answer that the rules allow, 0 that an access explains which the log does not show, 0 for which no run was found, 0 not judged\ncertified: the kernel's answers, which a kernel of the rules may have given; pages known to be missing 1, put twice 0, of which nothing is known 0\n",

@@ -170,7 +170,10 @@ pub(crate) fn resumed(text: &[u8]) -> Option<(&[u8], &[u8])> {
 
 /// What a call that is not finished has printed.
 pub(crate) fn unfinished(text: &[u8]) -> Option<&[u8]> {
-    let text = text.strip_suffix(b"<unfinished ...>")?;
+    let text = match text.strip_suffix(b"<unfinished ...>") {
+        Some(text) => text,
+        None => text.strip_suffix(b"<detached ...>")?,
+    };
     Some(text.strip_suffix(b" ").unwrap_or(text))
 }
 

@@ -1,12 +1,14 @@
 //! What a search looks up in a log: reads by their objects and pages, and what takes registered pages away.
 
+use crate::needs::protects;
+use crate::search::spans::{At, Of, Spans};
 use call_log::log::Log;
 use call_log::log_call::LogCall;
 use mig_base::NoMemory;
 use std::alloc::Global;
 use uffd_log::{Call, Message};
 
-/// A read that returns a fault of a page.
+/// A read that returns a fault of a page, or a call that puts one.
 #[derive(Clone, Copy, PartialEq, Eq, PartialOrd, Ord)]
 pub(crate) struct FaultRead {
     pub(crate) object: u64,
@@ -14,7 +16,7 @@ pub(crate) struct FaultRead {
     /// The line where it ends.
     pub(crate) end: u32,
     pub(crate) call: u32,
-    /// The place of its message among those of the read.
+    /// Of a read: the place of its message among its others.
     pub(crate) message: u32,
 }
 
@@ -27,33 +29,33 @@ pub(crate) struct ObjectRead {
     pub(crate) call: u32,
 }
 
-/// A call that may take pages of an address space away.
-#[derive(Clone, Copy)]
-pub(crate) struct Gone {
-    pub(crate) end: u32,
-    pub(crate) begin: u32,
-    /// The first line at which it or one after it begins.
-    pub(crate) first_begin: u32,
-    pub(crate) space: u32,
-    pub(crate) start: u64,
-    pub(crate) len: u64,
-}
-
 /// Each list in its order.
 #[derive(Drop)]
 pub(crate) struct Index {
     pub(crate) faults: Vec<FaultRead>,
+    /// The calls that put pages, by the first of these.
+    puts: Vec<FaultRead>,
     pub(crate) reads: Vec<ObjectRead>,
-    /// In the order of their ends; those that never returned are not there.
-    pub(crate) gone: Vec<Gone>,
+    /// The calls that may clear pages of an address space.
+    pub(crate) cleared: Spans,
+    /// Those that take their registration away.
+    gone: Spans,
+    /// Those that register pages with an object, or move registered pages in an address space.
+    registered: Spans,
+    /// Those that write-protect pages of an object.
+    pub(crate) protected: Spans,
 }
 
 impl Index {
     pub(crate) fn new(alloc: Global, log: &Log) -> Result<Index, NoMemory> {
         let mut index = Index {
             faults: Vec::new(alloc),
+            puts: Vec::new(alloc),
             reads: Vec::new(alloc),
-            gone: Vec::new(alloc),
+            cleared: Spans::new(alloc),
+            gone: Spans::new(alloc),
+            registered: Spans::new(alloc),
+            protected: Spans::new(alloc),
         };
         for place in &log.ends {
             if let Some(call) = log.call(*place) {
@@ -61,17 +63,19 @@ impl Index {
             }
         }
         index.faults.sort()?;
+        index.puts.sort()?;
         index.reads.sort()?;
-        index.note_begins();
+        index.cleared.note_begins();
+        index.gone.note_begins();
+        index.registered.note_begins();
+        index.protected.note_begins();
         Ok(index)
     }
 
     /// Adds a call that returned.
     fn add(&mut self, log: &Log, place: u32, call: &LogCall) -> Result<(), NoMemory> {
-        let is_unregister = matches!(call.call, Call::Unregister { .. });
-        if call.is_ok() && (is_unregister || call.is_map_call()) {
-            self.add_gone(call)?;
-        }
+        self.add_span(place, call)?;
+        self.add_put(log, place, call)?;
         let Call::Read { on, .. } = call.call else {
             return Ok(());
         };
@@ -96,26 +100,44 @@ impl Index {
         Ok(())
     }
 
-    fn add_gone(&mut self, call: &LogCall) -> Result<(), NoMemory> {
-        if let Some((start, len)) = call.bytes() {
-            self.gone.push(Gone {
+    /// Adds a call that has put pages.
+    fn add_put(&mut self, log: &Log, place: u32, call: &LogCall) -> Result<(), NoMemory> {
+        let (Some(object), Some(put)) = (call.object(), call.done_pages(log.size)) else {
+            return Ok(());
+        };
+        if call.install_mode().is_some() {
+            self.puts.push(FaultRead {
+                object,
+                page: put.first,
                 end: call.end,
-                begin: call.begin,
-                first_begin: call.begin,
-                space: call.space,
-                start,
-                len,
+                call: place,
+                message: 0,
             })?;
         }
         Ok(())
     }
 
-    /// Notes with each call that takes pages away the first line at which it or one after it begins.
-    fn note_begins(&mut self) {
-        let mut first = u32::MAX;
-        for gone in self.gone.iter_mut().rev() {
-            first = first.min(gone.begin);
-            gone.first_begin = first;
+    /// Adds the pages that a call has changed.
+    fn add_span(&mut self, place: u32, call: &LogCall) -> Result<(), NoMemory> {
+        let (Some(bytes), true) = (call.bytes(), call.is_ok()) else {
+            return Ok(());
+        };
+        let space = Of::Space(call.space);
+        if let (Call::Mremap { new_len, .. }, Some(target)) = (call.call, call.value()) {
+            self.registered.add(place, call, space, (target, new_len))?;
+            self.gone.add(place, call, space, (target, new_len))?;
+        }
+        let Some(object) = call.object() else {
+            return match call.call {
+                Call::Madvise { .. } => self.cleared.add(place, call, space, bytes),
+                _ => self.gone.add(place, call, space, bytes),
+            };
+        };
+        match call.call {
+            Call::Unregister { .. } => self.gone.add(place, call, Of::Object(object), bytes),
+            Call::Register { .. } => self.registered.add(place, call, Of::Object(object), bytes),
+            _ if protects(call) => self.protected.add(place, call, Of::Object(object), bytes),
+            _ => Ok(()),
         }
     }
 
@@ -131,19 +153,47 @@ impl Index {
             .partition_point(|read| is_fault_before(read, object, page, line))
     }
 
-    /// Whether a page may have been taken away by a call that ends at a line or after it, and begins before another line.
-    pub(crate) fn is_gone(&self, space: u32, addr: u64, from: u32, until: u32) -> bool {
-        let first = self.gone.partition_point(|gone| gone.end < from);
-        for gone in self.gone.get(first..).unwrap_or(&[]) {
-            if gone.first_begin >= until {
-                return false;
+    /// The first call other than one that puts a page, and ends after a line.
+    pub(crate) fn next_put(
+        &self,
+        call: u32,
+        object: u64,
+        page: u64,
+        line: u32,
+    ) -> Option<FaultRead> {
+        let first = self
+            .puts
+            .partition_point(|put| is_fault_before(put, object, page, line));
+        for put in self.puts.get(first..).unwrap_or(&[]) {
+            if put.object != object || put.page != page {
+                return None;
             }
-            let is_in = gone.space == space && gone.start <= addr && addr - gone.start < gone.len;
-            if gone.begin < until && is_in {
-                return true;
+            if put.call != call {
+                return Some(*put);
             }
         }
-        false
+        None
+    }
+
+    /// Whether a page may be registered by a call that ends at a line or after it, and begins before another line.
+    pub(crate) fn is_registered(&self, at: At, from: u32, until: u32) -> bool {
+        self.registered.has_any(at, from, until)
+    }
+
+    /// The same of calls that take its registration away.
+    pub(crate) fn is_gone(&self, at: At, from: u32, until: u32) -> bool {
+        self.gone.has_any(at, from, until)
+    }
+
+    /// The same of calls that take its registration away, and of others that register it.
+    pub(crate) fn is_registered_anew(&self, at: At, from: u32, until: u32) -> bool {
+        self.is_gone(at, from, until) && self.is_registered(at, from, until)
+    }
+
+    /// The same of calls that make it missing: it is cleared, or registered anew.
+    pub(crate) fn is_cleared(&self, at: At, from: u32, until: u32) -> bool {
+        self.cleared.has(Of::Space(at.space), at.addr, from, until)
+            || self.is_registered_anew(at, from, until)
     }
 }
 

@@ -16,7 +16,7 @@ pub returns-clause-mmap_refused : goal.returns-clause-mmap_refused
 returns-clause-mmap_refused c it made cpu errno is = mmap-refused it cpu made.len made.prot made.place made.addr made.flags errno is
 
 pub returns-clause-dontneed : goal.returns-clause-dontneed
-returns-clause-dontneed c it cpu addr len is unseen = dontneed-taken it cpu addr len is unseen
+returns-clause-dontneed c it cpu addr len may = dontneed-taken it cpu addr len may.unseen may.inside
 
 pub returns-clause-returns : goal.returns-clause-returns
 returns-clause-returns c one key may = returned-agree one key may

@@ -1,4 +1,4 @@
-use Rattle.kernel_laws.proofs.SourceOpens.{source-has-log}
+use Rattle.kernel_laws.proofs.SourceOpens.{source-always-has-log, source-has-log}
 use Rattle.kernel_laws.proofs.SourceRuns.{source-logged}
 use Rattle.kernel_laws.proofs.a_source_is_logged.Goals as goal
 
@@ -7,3 +7,6 @@ returns-clause-steps c at key steps followed kept = source-logged at key steps f
 
 pub returns-clause-whole : goal.returns-clause-whole
 returns-clause-whole c it steps followed kept = source-has-log it steps followed kept
+
+pub returns-clause-released : goal.returns-clause-released
+returns-clause-released c it steps followed = source-always-has-log it steps followed

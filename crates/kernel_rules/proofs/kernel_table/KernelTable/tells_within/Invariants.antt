@@ -1,6 +1,6 @@
 use Rattle.std.proofs.Common.{◌≡◌, drop}
 use Rattle.std.specs.List.{list_any}
-use Rattle.std.specs.Prelude.{◌==◌, ◌&&◌}
+use Rattle.std.specs.Prelude.{◌&&◌}
 use Rattle.kernel_rules.specs.declared.object.Registration.{Registration}
 use Rattle.kernel_rules.specs.MapCalls.{watches_in}
 use Rattle.kernel_rules.specs.Ioctls.{tells_object}

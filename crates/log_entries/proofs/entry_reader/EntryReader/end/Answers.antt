@@ -34,5 +34,5 @@ returns c =
     on_ok_weaker c.push_end.result
     (λ e lines has.
     ended lines c.args.self.now new c.args.one c.in-Some.first.now r.0 c.args.stamp c.args.number c.args.answer c.in-Some.first.now.number
-    (with_read c.deref-5.result.now c.deref-6.result.now) c.requires refl found refl out c.remove_lines.ensures e has)
+    (with_read c.deref-5.result.now c.deref-6.result.now) c.requires refl refl found refl out c.remove_lines.ensures e has)
     c.push_end.ensures.ok

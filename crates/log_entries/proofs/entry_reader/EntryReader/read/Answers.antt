@@ -15,7 +15,7 @@ returns-in_ok-keep c =
     in
     λ lines has.
     read_more lines c.args.self.now c.keep.new.self c.args.one c.args.pid c.args.number c.has_line.result c.requires.of c.requires.kind test c.if-has_line.true (ap (λ (r : EntryReader). r.whole) keep)
-    (ap (λ (r : EntryReader). r.entries) keep) c.in_ok-keep.ensures.kept has
+    (ap (λ (r : EntryReader). r.programs) keep) (ap (λ (r : EntryReader). r.entries) keep) c.in_ok-keep.ensures.kept has
 
 pub returns-else-has_line : goal.returns-else-has_line
 returns-else-has_line c =
