@@ -22,12 +22,7 @@ double now(void);    // milliseconds
 extern int patience; // milliseconds that a thread may take to end or to fall asleep
 
 // calls.c: the commands of a processor, written as in a script
-enum kind { LOAD,
-            STORE,
-            MMAP,
-            MUNMAP,
-            MREMAP,
-            DONTNEED };
+enum kind { LOAD, STORE, MMAP, MUNMAP, MREMAP, DONTNEED };
 struct call {
     enum kind kind;
     uint64_t addr, length, width, value, new_length, target;

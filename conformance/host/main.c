@@ -162,7 +162,8 @@ static void take_line(char *line)
         words[count++] = word;
     if (count && !strcmp(words[0], "quit"))
         _exit(0);
-    if (count && !take_processor_command(words, count) && !take_question(words, count) && !take_handler_command(words, count))
+    if (count && !take_processor_command(words, count) && !take_question(words, count) &&
+        !take_handler_command(words, count))
         answer("what");
     fflush(stdout);
 }

@@ -64,7 +64,8 @@ void answer_message(void)
     }
     switch (message.event) {
     case UFFD_EVENT_PAGEFAULT:
-        answer("fault 0x%llx %llu %u", message.arg.pagefault.address, message.arg.pagefault.flags, message.arg.pagefault.feat.ptid);
+        answer("fault 0x%llx %llu %u", message.arg.pagefault.address, message.arg.pagefault.flags,
+               message.arg.pagefault.feat.ptid);
         break;
     case UFFD_EVENT_REMAP:
         answer("remap 0x%llx 0x%llx %llu", message.arg.remap.from, message.arg.remap.to, message.arg.remap.len);
@@ -88,7 +89,9 @@ static int send_descriptor(int peer)
     } control = { .header = { .cmsg_len = CMSG_LEN(sizeof fd), .cmsg_level = SOL_SOCKET, .cmsg_type = SCM_RIGHTS } };
     char byte = 0;
     struct iovec part = { &byte, 1 };
-    struct msghdr message = { .msg_iov = &part, .msg_iovlen = 1, .msg_control = &control, .msg_controllen = sizeof control };
+    struct msghdr message = {
+        .msg_iov = &part, .msg_iovlen = 1, .msg_control = &control, .msg_controllen = sizeof control
+    };
     memcpy(CMSG_DATA(&control.header), &fd, sizeof fd);
     return sendmsg(peer, &message, MSG_NOSIGNAL) == 1 ? 0 : -1;
 }
