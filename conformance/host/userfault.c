@@ -1,9 +1,9 @@
 // The userfaultfd: how it is opened, its messages, and its ioctls.
 #include "host.h"
 
+#include "../../audit/programs/newer.h"
 #include <errno.h>
 #include <fcntl.h>
-#include <linux/userfaultfd.h>
 #include <poll.h>
 #include <string.h>
 #include <sys/ioctl.h>
@@ -125,6 +125,12 @@ void answer_copy(uint64_t addr, uint64_t mode, const char *bytes)
     answer_result(ioctl(fd, UFFDIO_COPY, &copy));
 }
 
+void answer_move(uint64_t to, uint64_t from, uint64_t length, uint64_t mode)
+{
+    struct uffdio_move move = { to, from, length, mode, 0 };
+    answer_result(ioctl(fd, UFFDIO_MOVE, &move));
+}
+
 void answer_range_call(const char *name, uint64_t addr, uint64_t length, uint64_t mode)
 {
     struct uffdio_range range = { addr, length };
@@ -137,6 +143,12 @@ void answer_range_call(const char *name, uint64_t addr, uint64_t length, uint64_
     } else if (!strcmp(name, "zeropage")) {
         struct uffdio_zeropage call = { range, mode, 0 };
         answer_result(ioctl(fd, UFFDIO_ZEROPAGE, &call));
+    } else if (!strcmp(name, "continue")) {
+        struct uffdio_continue call = { range, mode, 0 };
+        answer_result(ioctl(fd, UFFDIO_CONTINUE, &call));
+    } else if (!strcmp(name, "poison")) {
+        struct uffdio_poison call = { range, mode, 0 };
+        answer_result(ioctl(fd, UFFDIO_POISON, &call));
     } else if (!strcmp(name, "unregister")) {
         answer_result(ioctl(fd, UFFDIO_UNREGISTER, &range));
     } else {
