@@ -37,7 +37,8 @@ static struct model start_model(const char *program)
     return (struct model){ fdopen(in[1], "w"), fdopen(out[0], "r") };
 }
 
-/* Makes the step of an event, and compares its answer with what the monitor did. The line is not a comment: that has no answer. */
+/* Makes the step of an event, and compares its answer with what the monitor did. The line is not a comment: that
+   has no answer. */
 static void same(struct model *model, const char *line, const char *done)
 {
     char answer[512] = "";

@@ -6,11 +6,12 @@
 #include <stdlib.h>
 #include <string.h>
 
-static const char usage[] = "usage: process [--threads N] [--pages N] [--words N] [--count N] [--calls N] [--pauses N] [--swaps]\n"
-                            "               [--seed N] [--plant zero|old|lost|exchange|flip] [--page N]\n"
-                            "  --threads  1 to 16 (4)          --pages  of the memory (64)        --words  of each page, 1 to 512 (8)\n"
-                            "  --count    operations (100000)  --calls  map calls of 10000 (20)   --pauses inside an operation, at most (0)\n"
-                            "  --swaps    exchanges in place of stores   --plant  a fault in the memory, at --page\n";
+static const char usage[] =
+    "usage: process [--threads N] [--pages N] [--words N] [--count N] [--calls N] [--pauses N] [--swaps]\n"
+    "               [--seed N] [--plant zero|old|lost|exchange|flip] [--page N]\n"
+    "  --threads  1 to 16 (4)          --pages  of the memory (64)        --words  of each page, 1 to 512 (8)\n"
+    "  --count    operations (100000)  --calls  map calls of 10000 (20)   --pauses inside an operation, at most (0)\n"
+    "  --swaps    exchanges in place of stores   --plant  a fault in the memory, at --page\n";
 
 static void refuse(void)
 {
@@ -81,17 +82,9 @@ static int write_history(const struct settings *settings, const struct records *
 int main(int count, char **words)
 {
     static const struct option options[] = {
-        { "threads", 1, 0, 't' },
-        { "pages", 1, 0, 'p' },
-        { "words", 1, 0, 'w' },
-        { "count", 1, 0, 'n' },
-        { "calls", 1, 0, 'm' },
-        { "pauses", 1, 0, 'j' },
-        { "seed", 1, 0, 's' },
-        { "swaps", 0, 0, 'x' },
-        { "plant", 1, 0, 'f' },
-        { "page", 1, 0, 'g' },
-        { 0, 0, 0, 0 },
+        { "threads", 1, 0, 't' }, { "pages", 1, 0, 'p' },  { "words", 1, 0, 'w' }, { "count", 1, 0, 'n' },
+        { "calls", 1, 0, 'm' },   { "pauses", 1, 0, 'j' }, { "seed", 1, 0, 's' },  { "swaps", 0, 0, 'x' },
+        { "plant", 1, 0, 'f' },   { "page", 1, 0, 'g' },   { 0, 0, 0, 0 },
     };
     struct settings settings = { .threads = 4, .pages = 64, .words = 8, .count = 100000, .calls = 20, .seed = 1 };
     struct records records[MOST_THREADS] = { { 0 } };

@@ -5,12 +5,7 @@
 #include <stdint.h>
 #include <stdio.h>
 
-enum kind { LOAD,
-            STORE,
-            SWAP,
-            MAP,
-            UNMAP,
-            DISCARD };
+enum kind { LOAD, STORE, SWAP, MAP, UNMAP, DISCARD };
 
 struct record {
     uint64_t begin;

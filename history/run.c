@@ -126,7 +126,7 @@ static void unmap(struct records *records, uint64_t addr, uint64_t length)
     seal(record);
 }
 
-// A map call on one to three pages, which nobody accesses meanwhile.
+// A map call on one to three pages, which no one accesses meanwhile.
 static void call_map(struct worker *worker, uint64_t random, unsigned long page)
 {
     unsigned long count = 1 + (random >> 4) % 3;
@@ -223,7 +223,8 @@ void make_run(const struct settings *settings, struct records *records, struct r
     for (unsigned i = 0; i < settings->threads; i++) {
         size_t last = (settings->pages / settings->threads + 1) * settings->words;
         make_records(&records[i], 2 * settings->count / settings->threads + last);
-        workers[i] = (struct worker){ settings, &records[i], (settings->seed + 1) * 0x9e3779b97f4a7c15u + (i + 1) * 0xd1b54a32d192ed03u, i };
+        workers[i] = (struct worker){ settings, &records[i],
+                                      (settings->seed + 1) * 0x9e3779b97f4a7c15u + (i + 1) * 0xd1b54a32d192ed03u, i };
         for (int k = 0; k < 8; k++)
             drawn(&workers[i]);
     }

@@ -27,7 +27,8 @@ struct settings {
 // Makes the run. The records of thread I are in `records[I]`; those of the first map call are in `first`.
 void make_run(const struct settings *settings, struct records *records, struct records *first);
 
-// A page is mapped from the first of these calls to the second. Who needs several enters them by their numbers, the least first.
+// A page is mapped from the first of these calls to the second. Who needs several enters them by their numbers, the
+// least first.
 void enter_page(unsigned long page);
 void leave_page(unsigned long page);
 

@@ -1,5 +1,5 @@
-/* The same guest, connections and calls of the kernel without a node: what a migration costs beside it is the node's and the driver's. One process
-   has both sides, of each slice in two threads. */
+/* The same guest, connections and calls of the kernel without a node: what a migration costs beside it is the
+   node's and the driver's. One process has both sides, of each slice in two threads. */
 #include <errno.h>
 #include <inttypes.h>
 #include <poll.h>
@@ -33,17 +33,17 @@ struct bare {
     char text[32]; /* of the address */
     struct address address;
     struct door door;
-    char *from, *to;        /* of this slice */
-    uint32_t next, sent;    /* as a source, it continues after the page that was asked for last */
-    bool *is_sent, *is_put; /* each page; */
-    uint64_t *waited_since; /* and since when somebody waits for it, or 0 */
+    char *from, *to;              /* of this slice */
+    uint32_t next, sent;          /* as a source, it continues after the page that was asked for last */
+    bool *is_sent, *is_installed; /* each page; */
+    uint64_t *waited_since;       /* and since when someone waits for it, or 0 */
     int userfault;
-    uint32_t put, waiting; /* pages, and those that somebody waits for */
+    uint32_t installed, waiting; /* pages, and those that someone waits for */
     uint64_t last_request;
     struct stream main, urgent; /* of the putting side */
     struct samples waits;
-    uint64_t busy_sending, busy_putting; /* nanoseconds of processor time */
-    uint64_t took;                       /* and of time */
+    uint64_t busy_sending, busy_installing; /* nanoseconds of processor time */
+    uint64_t took;                          /* and of time */
 };
 
 static void expect(bool is_whole)
@@ -81,7 +81,7 @@ static void serve(struct bare *bare, struct stream *main, struct stream *urgent)
     }
 }
 
-/* Each connection begins with a head that is not a page's. (Without a byte nobody accepts it.) */
+/* Each connection begins with a head that is not a page's. (Without a byte no one accepts it.) */
 static void connect_there(const struct bare *bare, struct stream *stream)
 {
     int file = wire_connect(&bare->address, bare->options->buffer);
@@ -138,21 +138,21 @@ static char *page_at(const struct bare *bare, uint32_t page)
     return bare->to + (size_t)page * PAGE_BYTES;
 }
 
-static void put_page(struct bare *bare, uint32_t page, const uint8_t *bytes)
+static void install_page(struct bare *bare, uint32_t page, const uint8_t *bytes)
 {
     int error = kernel_copy(bare->userfault, page_at(bare, page), bytes);
 
     if (error)
         refuse_errno(error, "UFFDIO_COPY");
-    bare->is_put[page] = true;
-    bare->put++;
+    bare->is_installed[page] = true;
+    bare->installed++;
     if (!bare->waited_since[page])
         return;
     bare->waiting--;
     samples_add(&bare->waits, kernel_now() - bare->waited_since[page]);
 }
 
-static void put_some(struct bare *bare, struct stream *stream)
+static void install_some(struct bare *bare, struct stream *stream)
 {
     if (stream_length(stream) < FRAME_BYTES) /* (what is received waits here, and not where it is bounded) */
         expect(stream_receive(stream, 0));
@@ -160,7 +160,7 @@ static void put_some(struct bare *bare, struct stream *stream)
         uint32_t page;
 
         memcpy(&page, stream_front(stream), sizeof page);
-        put_page(bare, page, stream_front(stream) + HEAD_BYTES);
+        install_page(bare, page, stream_front(stream) + HEAD_BYTES);
         stream_take(stream, FRAME_BYTES);
     }
 }
@@ -168,9 +168,10 @@ static void put_some(struct bare *bare, struct stream *stream)
 static void take_fault(struct bare *bare, const struct uffd_msg *message)
 {
     uint64_t at = message->arg.pagefault.address - (uintptr_t)bare->to;
-    uint32_t page = (uint32_t)(at / PAGE_BYTES), thread = guest_thread_of(bare->guest, message->arg.pagefault.feat.ptid);
+    uint32_t page = (uint32_t)(at / PAGE_BYTES),
+             thread = guest_thread_of(bare->guest, message->arg.pagefault.feat.ptid);
 
-    if (bare->is_put[page]) {
+    if (bare->is_installed[page]) {
         if (kernel_wake(bare->userfault, page_at(bare, page)))
             refuse("UFFDIO_WAKE");
     } else if (!bare->waited_since[page]) {
@@ -192,22 +193,24 @@ static void take_faults(struct bare *bare)
     expect(stream_send(&bare->main));
 }
 
-static void put_all(struct bare *bare)
+static void install_all(struct bare *bare)
 {
     uint64_t begun = kernel_thread_time();
 
-    while (bare->put < bare->pages) {
-        struct pollfd files[] = { stream_waits(&bare->main), stream_waits(&bare->urgent), { .fd = bare->userfault, .events = POLLIN } };
+    while (bare->installed < bare->pages) {
+        struct pollfd files[] = { stream_waits(&bare->main),
+                                  stream_waits(&bare->urgent),
+                                  { .fd = bare->userfault, .events = POLLIN } };
         bool has_more = stream_length(&bare->main) >= FRAME_BYTES || stream_length(&bare->urgent) >= FRAME_BYTES;
 
         kernel_first(!has_more || bare->waiting);
         if (poll(files, 3, has_more ? 0 : 100) < 0 && errno != EINTR)
             refuse_errno(errno, "poll");
         take_faults(bare);
-        put_some(bare, &bare->urgent);
-        put_some(bare, &bare->main);
+        install_some(bare, &bare->urgent);
+        install_some(bare, &bare->main);
     }
-    bare->busy_putting = kernel_thread_time() - begun;
+    bare->busy_installing = kernel_thread_time() - begun;
     slice_completes(bare->slices, bare->slice);
     if (slices_are_complete(bare->slices))
         guest_ask_stop(bare->guest);
@@ -258,9 +261,9 @@ static void prepare(struct bare *bare, struct slices *slices, uint32_t slice, ch
     bare->from = from + first;
     bare->to = slices->guest.memory + first;
     bare->is_sent = calloc(bare->pages, sizeof *bare->is_sent);
-    bare->is_put = calloc(bare->pages, sizeof *bare->is_put);
+    bare->is_installed = calloc(bare->pages, sizeof *bare->is_installed);
     bare->waited_since = calloc(bare->pages, sizeof *bare->waited_since);
-    if (!bare->is_sent || !bare->is_put || !bare->waited_since)
+    if (!bare->is_sent || !bare->is_installed || !bare->waited_since)
         refuse("no memory for the list of pages");
     bare->userfault = kernel_open_userfault();
     kernel_register(bare->userfault, bare->to, (size_t)bare->pages * PAGE_BYTES, false);
@@ -301,7 +304,7 @@ static void run_slice(void *side)
     begun = kernel_now();
     if (!bare->slice)
         guest_start(bare->guest);
-    put_all(bare);
+    install_all(bare);
     bare->took = kernel_now() - begun;
     stream_close(&bare->main);
     stream_close(&bare->urgent);
@@ -316,7 +319,7 @@ static void add_figures(struct bare *all, const struct bare *one)
 {
     all->took = one->took > all->took ? one->took : all->took;
     all->busy_sending += one->busy_sending;
-    all->busy_putting += one->busy_putting;
+    all->busy_installing += one->busy_installing;
     for (size_t i = 0; i < one->waits.count; i++)
         samples_add(&all->waits, one->waits.value[i]);
 }
@@ -332,9 +335,9 @@ int bare_run(const struct options *options)
     slices_run(&slices, run_slice, bares, sizeof *bares);
     for (uint32_t i = 1; i < slices.count; i++)
         add_figures(bares, &bares[i]);
-    log_figures("bare pages=%u took=%" PRIu64 " sending=%" PRIu64 " putting=%" PRIu64, options->plan.pages, bares->took, bares->busy_sending,
-                bares->busy_putting);
-    log_figures(" waits=%zu p50=%.1f p99=%.1f most=%.1f\n", bares->waits.count, samples_part(&bares->waits, 500), samples_part(&bares->waits, 990),
-                samples_part(&bares->waits, 1000));
+    log_figures("bare pages=%u took=%" PRIu64 " sending=%" PRIu64 " putting=%" PRIu64, options->plan.pages, bares->took,
+                bares->busy_sending, bares->busy_installing);
+    log_figures(" waits=%zu p50=%.1f p99=%.1f most=%.1f\n", bares->waits.count, samples_part(&bares->waits, 500),
+                samples_part(&bares->waits, 990), samples_part(&bares->waits, 1000));
     return guest_verdict(&slices.guest);
 }

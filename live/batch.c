@@ -51,6 +51,7 @@ bool batch_receive(struct batch *batch, struct stream *stream, size_t missing, s
     size_t count = 0, there = batch->length, few = 0;
     bool is_whole;
 
+    require(!batch->first && batch->length < FRAME_BYTES);
     if (!there && missing)
         parts[count++] = (struct iovec){ stream_space(stream, missing), few = missing };
     for (uint32_t i = 0; i < MOST_OF_BATCH; i++) {
@@ -71,8 +72,8 @@ static bool is_page(const struct batch *batch, uint32_t number)
     size_t head_bytes, page_bytes;
 
     return batch->length >= number * FRAME_BYTES + PAGE_HEAD_BYTES &&
-        postmig_frame_lengths(head, PAGE_HEAD_BYTES, &head_bytes, &page_bytes) == POSTMIG_OK && head_bytes == PAGE_HEAD_BYTES &&
-        page_bytes == PAGE_BYTES;
+        postmig_frame_lengths(head, PAGE_HEAD_BYTES, &head_bytes, &page_bytes) == POSTMIG_OK &&
+        head_bytes == PAGE_HEAD_BYTES && page_bytes == PAGE_BYTES;
 }
 
 /* What has the header of the Page before it is a Page. */
@@ -101,6 +102,7 @@ static void move_part(struct batch *batch)
 
 void batch_take(struct batch *batch, uint32_t count, struct stream *stream)
 {
+    require(count * FRAME_BYTES <= batch->length);
     batch->first += count;
     batch->length -= count * FRAME_BYTES;
     if (!is_page(batch, 0))

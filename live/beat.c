@@ -3,7 +3,8 @@
 
 #define BEAT_NS 250000000u
 #define MOST_DOUBLED 5u
-#define MOST_OF_TURN_NS 200000000u /* a longer turn is one in which this process did not run: the other side is not silent by that */
+/* a longer turn is one in which this process did not run: the other side is not silent by that */
+#define MOST_OF_TURN_NS 200000000u
 
 void beat_put(struct stream *stream, uint8_t sign)
 {

@@ -17,7 +17,8 @@
 #define KEPT_AT_A_TIME 16u
 #define OWN_FILES (4u + OPERATOR_FILES) /* what is waited for, but of the door */
 #define MOST_FILES (MOST_NEWCOMERS + 1u + OWN_FILES)
-#define RESERVE_BYTES (28u << 20)    /* of the heap, for a node (20 MiB, as measured), buffers, and the contents of frames; */
+/* of the heap, for a node (20 MiB, as measured), buffers, and the contents of frames; */
+#define RESERVE_BYTES (28u << 20)
 #define RESERVE_OF_PAGE 96u          /* for each page (60); */
 #define RESERVE_OF_TRACE (96u << 20) /* and for the lines that wait in a trace */
 #define MOST_UNASKED 8u              /* turns without poll(2) */
@@ -30,10 +31,10 @@ void dest_look(struct dest *dest)
     node_do(postmig_destination_counts(&dest->node.handle, &dest->state));
 }
 
-void dest_leave(struct dest *dest, enum left left)
+void dest_has_pending(struct dest *dest, enum pending pending)
 {
-    if (left > dest->left)
-        dest->left = left;
+    if (pending > dest->pending)
+        dest->pending = pending;
 }
 
 static void begin_sums(struct dest *dest)
@@ -77,7 +78,8 @@ static void begin(struct dest *dest)
     dest_look(dest);
 }
 
-/* Listens for the source, or starts the program that takes its part. All connections are made to the first slice's door. */
+/* Listens for the source, or starts the program that takes its part. All connections are made to the first slice's
+   door. */
 static void open_doors(struct dest *dests, const struct options *options)
 {
     struct door *first = &dests->door;
@@ -93,11 +95,11 @@ static void open_doors(struct dest *dests, const struct options *options)
 
 /* THE LOOP */
 
-/* While pages keep coming poll(2) is called now and then: a userfaultfd and an urgent connection without anything say so in less time. (Nothing
-   is urgent while no thread waits.) */
+/* While pages keep coming poll(2) is called now and then: a userfaultfd and an urgent connection without anything
+   say so in less time. (Nothing is urgent while no thread waits.) */
 static bool is_still_flowing(struct dest *dest)
 {
-    if (dest->left != LEFT_PAGES || dest->unasked++ == MOST_UNASKED)
+    if (dest->pending != PENDING_PAGES || dest->unasked++ == MOST_UNASKED)
         return false;
     kernel_first(watch_has_sleeper(&dest->watch));
     dest->watch.is_behind = dest->main.is_ready = true;
@@ -112,7 +114,8 @@ static void wait_for_more(struct dest *dest)
                                         stream_waits(&dest->urgent),
                                         { .fd = dest->is_handed ? dest->handed.monitor : -1, .events = POLLIN } };
     uint32_t count = OWN_FILES + door_files(&dest->door, files + OWN_FILES);
-    bool has_more = dest->left || dest->main.is_ready || dest->urgent.is_ready || (dest->state.has_run && dest->watch.is_behind);
+    bool has_more =
+        dest->pending || dest->main.is_ready || dest->urgent.is_ready || (dest->state.has_run && dest->watch.is_behind);
 
     operator_files(files + 4);
     kernel_first(!has_more || watch_has_sleeper(&dest->watch));
@@ -162,22 +165,24 @@ static void show_progress(struct dest *dest)
     if (dest->slice || !dest->options->shows_progress)
         return;
     all = slices_say(dest->slices, POSTMIG_DESTINATION_PAUSED);
-    log_figures("progress destination phase=%s left=%" PRIu64 " installed=%" PRIu64 " faults=%" PRIu64 " waits=%u epoch=%u breaks=%" PRIu64 "\n",
+    log_figures("progress destination phase=%s left=%" PRIu64 " installed=%" PRIu64 " faults=%" PRIu64
+                " waits=%u epoch=%u breaks=%" PRIu64 "\n",
                 dest_phases[all.phase], all.left, all.moved, all.faults, all.waits, all.epoch, all.breaks);
 }
 
-static void tell_phase(struct dest *dest)
+static void log_phase(struct dest *dest)
 {
-    if (dest->told == dest->state.phase)
+    if (dest->logged_phase == dest->state.phase)
         return;
-    dest->told = dest->state.phase;
-    log_event("destination: %s, epoch %u, %u pages owed", dest_phases[dest->told], dest->state.epoch, dest->state.owed);
+    dest->logged_phase = dest->state.phase;
+    log_event("destination: %s, epoch %u, %u pages owed", dest_phases[dest->logged_phase], dest->state.epoch,
+              dest->state.owed);
 }
 
 /* One turn. Returns whether all is over. */
 static bool turn(struct dest *dest)
 {
-    dest->left = LEFT_NOTHING;
+    dest->pending = PENDING_NOTHING;
     dest_obey(dest);
     if (dest->state.has_run && dest->watch.is_behind)
         watch_handle(&dest->watch);
@@ -185,10 +190,10 @@ static bool turn(struct dest *dest)
         dest_look_at_door(dest);
     dest_use_channel(dest);
     if (dest->state.has_run && dest->is_handed)
-        dest_leave(dest, watch_put_kept(&dest->watch, KEPT_AT_A_TIME) ? LEFT_FRAMES : LEFT_NOTHING);
+        dest_has_pending(dest, watch_install_kept(&dest->watch, KEPT_AT_A_TIME) ? PENDING_FRAMES : PENDING_NOTHING);
     trace_bound();
     show_progress(dest);
-    tell_phase(dest);
+    log_phase(dest);
     if (!dest->slices->is_over && !is_still_flowing(dest))
         wait_for_more(dest);
     return dest->slices->is_over;
@@ -206,7 +211,8 @@ static bool wait_for_orders(uint32_t milliseconds)
     return keeper->slices->is_over;
 }
 
-/* The guest, or what has arrived of it, is here alone. What cannot be tried again leaves it as it is: threads that need no page run on. */
+/* The guest, or what has arrived of it, is here alone. What cannot be tried again leaves it as it is: threads that
+   need no page run on. */
 static int keep_all(const char *why)
 {
     keeper->is_held = true;
@@ -230,8 +236,9 @@ static void handle_guest(struct dest *dest)
 {
     watch_handle(&dest->watch);
     if (dest->is_handed)
-        (void)watch_put_kept(&dest->watch, KEPT_AT_A_TIME);                              /* the rest is put below */
-    (void)poll(&(struct pollfd){ .fd = dest->watch.userfault, .events = POLLIN }, 1, 1); /* a shorter wait is as good */
+        (void)watch_install_kept(&dest->watch, KEPT_AT_A_TIME); /* the rest is installed below */
+    /* a shorter wait is as good */
+    (void)poll(&(struct pollfd){ .fd = dest->watch.userfault, .events = POLLIN }, 1, 1);
 }
 
 /* Its threads stop, for all slices: their faults are handled until they have. */
@@ -250,7 +257,7 @@ static void stop_guest(struct dest *dest)
     kernel_unregister(dest->watch.userfault, dest->watch.memory, watch_bytes(&dest->watch));
 }
 
-/* The guest runs on for a moment. Then nobody watches its memory any more, in which all pages are. */
+/* The guest runs on for a moment. Then no one watches its memory any more, in which all pages are. */
 static void leave_guest(struct dest *dest)
 {
     uint64_t until = kernel_now() + dest->options->after * 1000000ull;
@@ -264,7 +271,7 @@ static void leave_guest(struct dest *dest)
         return;
     }
     dest->slices->is_over = false; /* another word of the operator ends a wait for the monitor, or for memory */
-    while (watch_put_kept(&dest->watch, KEPT_AT_A_TIME))
+    while (watch_install_kept(&dest->watch, KEPT_AT_A_TIME))
         watch_handle(&dest->watch);
     handed_leave(&dest->handed, wait_for_orders);
     live_keep((struct keeping){ NULL, NULL });
@@ -302,16 +309,20 @@ static void say_figures(struct dest *dest)
 {
     const struct watch *watch = &dest->watch;
 
-    log_figures("destination discard=%" PRIu64 " package=%" PRIu64 " run=%" PRIu64 " first=%" PRIu64 " end=%" PRIu64, dest->figures.discard,
-                dest->figures.package, dest->figures.run, atomic_load(&dest->guest->first_done), dest->figures.end);
-    log_figures(" kept=%" PRIu64 " discarded=%" PRIu64 " installed=%" PRIu64 " dropped=%" PRIu64 " requests=%" PRIu64, dest->figures.kept,
-                dest->figures.discarded, dest->state.installed, dest->state.dropped, watch->requests);
-    log_figures(" faults=%" PRIu64 " events=%" PRIu64 " roused=%" PRIu64 " again=%" PRIu64 " needless=%" PRIu64 " cleared=%" PRIu64, watch->faults,
-                watch->events, watch->roused, watch->again, watch->needless, watch->cleared);
-    log_figures(" waits=%zu p50=%.1f p99=%.1f most=%.1f", dest->waits.count, samples_part(&dest->waits, 500), samples_part(&dest->waits, 990),
-                samples_part(&dest->waits, 1000));
-    log_figures(" breaks=%" PRIu64 " late_breaks=%" PRIu64 " turned_away=%" PRIu64 " epoch=%u busy=%" PRIu64 "\n", dest->figures.breaks,
-                dest->figures.late_breaks, dest->door.turned_away, dest->state.epoch, dest->figures.busy);
+    log_figures("destination discard=%" PRIu64 " package=%" PRIu64 " run=%" PRIu64 " first=%" PRIu64 " end=%" PRIu64,
+                dest->figures.discard, dest->figures.package, dest->figures.run, atomic_load(&dest->guest->first_done),
+                dest->figures.end);
+    log_figures(" kept=%" PRIu64 " discarded=%" PRIu64 " installed=%" PRIu64 " dropped=%" PRIu64 " requests=%" PRIu64,
+                dest->figures.kept, dest->figures.discarded, dest->state.installed, dest->state.dropped,
+                watch->requests);
+    log_figures(" faults=%" PRIu64 " events=%" PRIu64 " roused=%" PRIu64 " again=%" PRIu64 " needless=%" PRIu64
+                " cleared=%" PRIu64,
+                watch->faults, watch->events, watch->roused, watch->again, watch->needless, watch->cleared);
+    log_figures(" waits=%zu p50=%.1f p99=%.1f most=%.1f", dest->waits.count, samples_part(&dest->waits, 500),
+                samples_part(&dest->waits, 990), samples_part(&dest->waits, 1000));
+    log_figures(" breaks=%" PRIu64 " late_breaks=%" PRIu64 " turned_away=%" PRIu64 " epoch=%u busy=%" PRIu64 "\n",
+                dest->figures.breaks, dest->figures.late_breaks, dest->door.turned_away, dest->state.epoch,
+                dest->figures.busy);
 }
 
 /* A slice: its migration, up to the end of this process. */
@@ -335,6 +346,7 @@ static void run_slice(void *side)
         dest_look(dest);
     }
     trace_end();
+    sums_end();
     postmig_free(&dest->node.handle);
 }
 
@@ -346,7 +358,8 @@ static void begin_guest(struct slices *slices, struct dest *dests, const struct 
 
     kernel_reserve(slices->count * RESERVE_BYTES + (size_t)options->plan.pages * RESERVE_OF_PAGE +
                    (options->trace ? slices->count * RESERVE_OF_TRACE : 0));
-    guest_open(&slices->guest, &options->plan, &options->pace, is_handed ? NULL : kernel_map((size_t)options->plan.pages * PAGE_BYTES));
+    guest_open(&slices->guest, &options->plan, &options->pace,
+               is_handed ? NULL : kernel_map((size_t)options->plan.pages * PAGE_BYTES));
     hello_begin(&own, options, !is_handed);
     for (uint32_t i = 0; i < slices->count; i++) {
         dests[i].options = options;
@@ -379,7 +392,8 @@ int dest_run(const struct options *options)
     if (options->feed)
         log_figures("fed status=%d\n", feed_end());
     if (!slices_are_complete(&slices))
-        lose(dests->state.has_run ? "the source is gone for good, and %u pages with it: the guest is lost" : "it ends before the switch",
+        lose(dests->state.has_run ? "the source is gone for good, and %u pages with it: the guest is lost"
+                                  : "it ends before the switch",
              dests->state.owed);
     operator_close();
     say_figures(dests);

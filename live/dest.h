@@ -1,4 +1,5 @@
-/* A destination: the state of a slice of `live dest` and `live handler`, and what its parts do. Each part is a file. */
+/* A destination: the state of a slice of `live dest` and `live handler`, and what its parts do. Each part is a
+   file. */
 #ifndef DEST_H
 #define DEST_H
 
@@ -17,15 +18,25 @@
 enum claim {
     CLAIM_NONE,  /* it has sent nothing: another one takes its place once it is idle, */
     CLAIM_SENDS, /* or is turned away while it is not */
-    CLAIM_BOUND, /* once each slice is bound it may have switched: no other one is served, and only `abandon` ends this side; */
+    CLAIM_BOUND, /* once each slice is bound it may have switched: no other one is served, and only `abandon` ends this
+                    side; */
     CLAIM_TOLD   /* and this was sent on this channel */
 };
 
 /* What a turn has left to do, for which poll(2) is not to wait. */
-enum left {
-    LEFT_NOTHING,
-    LEFT_FRAMES, /* whole ones may be there */
-    LEFT_PAGES   /* the last receive of pages got some, and maybe not all of them were taken */
+enum pending {
+    PENDING_NOTHING,
+    PENDING_FRAMES, /* whole ones may be there */
+    PENDING_PAGES   /* the last receive of pages got some, and maybe not all of them were taken */
+};
+
+/* What comes next on the main connection of a channel. */
+enum expects {
+    FIRST_FRAME,  /* none was taken: it may be a Resume */
+    WHOLE_FRAMES, /* in the stream */
+    PAGES, /* for the most part, since the guest runs: their bytes are received into the batch, what is between them
+              into the stream */
+    NOTHING_MORE /* a frame was refused on either connection: the channel is lost */
 };
 
 struct dest {
@@ -37,26 +48,26 @@ struct dest {
     struct handed handed; /* its memory, where it is a monitor's */
     bool is_handed;
     struct watch watch;
-    postmig_destination_state state; /* since the last step that changes the phase or the epoch; its counts may be older than the node's */
+    postmig_destination_state state; /* since the last step that changes the phase or the epoch; its counts may be older
+                                        than the node's */
     uint64_t last_turn;              /* ns */
-    enum left left;                  /* of this turn */
+    enum pending pending;            /* of this turn */
     uint32_t unasked;                /* turns since poll(2) */
-    uint32_t told;                   /* the phase that was written last */
+    uint32_t logged_phase;           /* the phase that was written last */
     bool is_held;                    /* nothing is done any more */
 
     /* the channel */
     struct door door;
-    bool is_at_door; /* somebody may be */
+    bool is_at_door; /* someone may be */
     struct stream main, urgent;
-    struct batch batch;  /* of the main one, whose stream is empty while a part of a page is here */
-    uint32_t channels;   /* taken until now */
-    struct hello own;    /* what is said of this process, */
-    struct hello source; /* and the last hello of the source */
-    enum claim claim;    /* of that source */
-    uint64_t opened;     /* its channel: ns */
-    uint32_t silences;   /* channels in a row on which nothing was heard */
-    bool is_first_frame; /* of this channel: none was taken, */
-    bool is_refused;     /* or one was refused */
+    struct batch batch;   /* of the main one, whose stream is empty while a part of a page is here */
+    enum expects expects; /* of this channel, or of the next one where none is open */
+    uint32_t channels;    /* taken until now */
+    struct hello own;     /* what is said of this process, */
+    struct hello source;  /* and the last hello of the source */
+    enum claim claim;     /* of that source */
+    uint64_t opened;      /* its channel: ns */
+    uint32_t silences;    /* channels in a row on which nothing was heard */
 
     struct samples waits;
     struct {
@@ -72,19 +83,19 @@ void dest_look(struct dest *dest);
 /* Says how far this slice is, for what is said of all. */
 void dest_says(struct dest *dest);
 /* This turn has that left to do, or more. */
-void dest_leave(struct dest *dest, enum left left);
+void dest_has_pending(struct dest *dest, enum pending pending);
 
 extern const char *const dest_phases[];
 
-/* dest_copies.c: before the guest runs copies go straight into its memory, which is not registered yet. Those of a monitor's memory are kept
-   apart. */
+/* dest_copies.c: before the guest runs copies go straight into its memory, which is not registered yet. Those of a
+   monitor's memory are kept apart. */
 
-/* Whether the copies that a frame has brought are of this guest's memory. (Where they are not, its channel is lost, and what the node keeps of it
-   goes with the Resume of the next one.) */
+/* Whether the copies that a frame has brought are of this guest's memory. (Where they are not, its channel is lost,
+   and what the node keeps of it goes with the Resume of the next one.) */
 bool dest_is_of_guest(const struct dest *dest, const postmig_effect *effect);
 void dest_keep_copies(struct dest *dest, const postmig_effect *effect, const struct frame *frame);
-/* Only the copies of pages that the node calls present are kept: a Discard or a Resume has taken others away. False where the Package, which owes
-   this number of pages, is not of this guest's memory. */
+/* Only the copies of pages that the node calls present are kept: a Discard or a Resume has taken others away. False
+   where the Package, which owes this number of pages, is not of this guest's memory. */
 bool dest_settle_copies(struct dest *dest, uint32_t owed);
 /* The kernel has no page that is owed, and no copy of one is kept. */
 void dest_check_owed(struct dest *dest);
@@ -118,7 +129,8 @@ void dest_look_at_door(struct dest *dest);
 /* dest_words.c: the operator */
 void dest_obey(struct dest *dest);
 
-/* dest.c: what is done once the guest may be nowhere else, where the kernel or the node has said what was not expected; and before it */
+/* dest.c: what is done once the guest may be nowhere else, where the kernel or the node has said what was not
+   expected; and before it */
 extern const struct keeping dest_bound, dest_free;
 
 #endif

@@ -1,4 +1,5 @@
-/* The channel of a destination: the source's two connections, who is let in at the door, and how a channel is lost. */
+/* The channel of a destination: the source's two connections, who is let in at the door, and how a channel is
+   lost. */
 #include "dest.h"
 
 #include "beat.h"
@@ -21,8 +22,8 @@ static void lose_channel(struct dest *dest, const char *why)
     stream_close(&dest->main);
     stream_close(&dest->urgent);
     batch_clear(&dest->batch);
-    dest->left = LEFT_NOTHING;
-    dest->is_refused = false;
+    dest->pending = PENDING_NOTHING;
+    dest->expects = FIRST_FRAME;
     if (dest->claim == CLAIM_TOLD)
         dest->claim = CLAIM_BOUND;
     node_drop_frames(&dest->node);
@@ -31,7 +32,8 @@ static void lose_channel(struct dest *dest, const char *why)
     log_event("destination: %s, epoch %u: %s", dest_source(dest), dest->source.epoch, why);
     dest->figures.breaks += phase != POSTMIG_DESTINATION_ENDED;
     dest->figures.late_breaks += phase == POSTMIG_DESTINATION_RUNNING;
-    if (phase == POSTMIG_DESTINATION_ADVISED || phase == POSTMIG_DESTINATION_DISCARDING || phase == POSTMIG_DESTINATION_RUNNING)
+    if (phase == POSTMIG_DESTINATION_ADVISED || phase == POSTMIG_DESTINATION_DISCARDING ||
+        phase == POSTMIG_DESTINATION_RUNNING)
         node_do(postmig_destination_notice(&dest->node.handle, &effect));
     dest_look(dest);
 }
@@ -61,7 +63,9 @@ static void take_channel(struct dest *dest, struct stream *fresh, const struct h
         begin_anew(dest);
     else if (stream_is_open(&dest->main))
         lose_channel(dest, "the source has come again");
-    stream_open(&dest->main, fresh->file, fresh->tls, dest->channels < options->cuts[dest->slice] ? &options->cut[dest->slice][dest->channels].main : &fresh->cut);
+    stream_open(&dest->main, fresh->file, fresh->tls,
+                dest->channels < options->cuts[dest->slice] ? &options->cut[dest->slice][dest->channels].main
+                                                            : &fresh->cut);
     hello_write(&own, stream_room(&dest->main, HELLO_BYTES));
     dest->main.out.end += HELLO_BYTES;
     dest->main.beats = source->flags & HELLO_BEATS;
@@ -69,17 +73,18 @@ static void take_channel(struct dest *dest, struct stream *fresh, const struct h
     dest->opened = kernel_now();
     log_event("destination: %s, epoch %u: connected", dest_source(dest), source->epoch);
     dest->source = *source;
-    dest->is_first_frame = true;
     dest->slices->last_frame = dest->last_turn;
     if (!dest->main.beats || !(source->flags & HELLO_BINDS))
         dest_claim(dest, CLAIM_BOUND); /* nothing says when it switches */
 }
 
-/* What becomes of other sources: the one that is served may have switched, or sends its pages; or it has sent nothing for a moment, or for longer. */
+/* What becomes of other sources: the one that is served may have switched, or sends its pages; or it has sent
+   nothing for a moment, or for longer. */
 static enum others others_at_door(const struct dest *dest)
 {
     uint64_t last = dest->slices->last_frame;
-    bool is_idle = dest->last_turn > last && dest->last_turn - last > (uint64_t)dest->options->silence * 1000000000u; /* (a turn may have been long) */
+    /* (a turn may have been long) */
+    bool is_idle = dest->last_turn > last && dest->last_turn - last > (uint64_t)dest->options->silence * 1000000000u;
 
     if (slices_are_bound(dest->slices))
         return OTHERS_GO;
@@ -98,7 +103,7 @@ static void take_urgent_channel(struct dest *dest)
     struct wanted wanted = { URGENT, epoch, epoch, dest->source.instance, others_at_door(dest) };
     struct hello hello;
 
-    if (stream_is_open(&dest->urgent) || dest->source.epoch != epoch || dest->is_first_frame)
+    if (stream_is_open(&dest->urgent) || dest->source.epoch != epoch || dest->expects == FIRST_FRAME)
         return;
     if (!door_take(&dest->door, &wanted, &dest->urgent, &hello))
         return;
@@ -111,8 +116,8 @@ static void take_urgent_channel(struct dest *dest)
 void dest_look_at_door(struct dest *dest)
 {
     uint32_t last = dest->source.epoch;
-    struct wanted wanted = { MAIN, last < UINT32_MAX ? last + 1 : last, last < UINT32_MAX ? UINT32_MAX : 0, dest->source.instance,
-                             others_at_door(dest) };
+    struct wanted wanted = { MAIN, last < UINT32_MAX ? last + 1 : last, last < UINT32_MAX ? UINT32_MAX : 0,
+                             dest->source.instance, others_at_door(dest) };
     struct stream fresh = NO_STREAM;
     struct hello hello;
 
@@ -131,15 +136,16 @@ void dest_look_at_door(struct dest *dest)
 /* Sends and receives. False once either connection is broken. */
 static bool exchange(struct dest *dest)
 {
-    if (!dest_take_urgent(dest) || !dest_take_main(dest) || dest->is_refused)
+    if (!dest_take_urgent(dest) || !dest_take_main(dest))
         return false;
-    (void)node_send_frames(&dest->node, &dest->main); /* how many is of no interest */
+    (void)node_send_frames(&dest->node, &dest->main); /* the count is not needed */
     return stream_send(&dest->main);
 }
 
 static bool is_silent(const struct dest *dest, struct stream *stream, uint64_t took)
 {
-    return stream_is_open(stream) && stream->beats && !dest->options->feed && beat_listen(stream, took) > beat_limit(dest->options->silence, dest->silences);
+    return stream_is_open(stream) && stream->beats && !dest->options->feed &&
+        beat_listen(stream, took) > beat_limit(dest->options->silence, dest->silences);
 }
 
 void dest_use_channel(struct dest *dest)
@@ -150,7 +156,9 @@ void dest_use_channel(struct dest *dest)
     if (!stream_is_open(&dest->main))
         return;
     if (!exchange(dest)) {
-        lose_channel(dest, dest->state.phase == POSTMIG_DESTINATION_ENDED ? "the source has ended it" : "the connection is broken");
+        lose_channel(dest,
+                     dest->state.phase == POSTMIG_DESTINATION_ENDED ? "the source has ended it"
+                                                                    : "the connection is broken");
         return;
     }
     beat_send(&dest->main, now);

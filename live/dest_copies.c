@@ -28,7 +28,8 @@ static void keep_zero(char *at)
 
 void dest_keep_copies(struct dest *dest, const postmig_effect *effect, const struct frame *frame)
 {
-    uint64_t pages = frame->page_bytes ? frame->page_bytes / PAGE_BYTES : 1, last = effect->addr + (pages - 1) * PAGE_BYTES;
+    uint64_t pages = frame->page_bytes ? frame->page_bytes / PAGE_BYTES : 1,
+             last = effect->addr + (pages - 1) * PAGE_BYTES;
     char *at = copy_of(dest, effect->addr);
 
     (void)watch_page(&dest->watch, last); /* it is the guest's */
@@ -39,7 +40,7 @@ void dest_keep_copies(struct dest *dest, const postmig_effect *effect, const str
         memcpy(at, frame->pages, frame->page_bytes);
     else
         keep_zero(at);
-    sums_put(at, at, pages);
+    sums_installed(at, at, pages);
 }
 
 bool dest_is_of_guest(const struct dest *dest, const postmig_effect *effect)
@@ -64,7 +65,8 @@ bool dest_settle_copies(struct dest *dest, uint32_t owed)
         owed -= run.state == POSTMIG_PAGE_OWED ? run.count : 0;
         if (run.state != POSTMIG_PAGE_PRESENT) {
             sums_forget(first, run.count);
-            given[count++] = (struct kernel_range){ copy_of(dest, (uint64_t)first * PAGE_BYTES), (size_t)run.count * PAGE_BYTES };
+            given[count++] =
+                (struct kernel_range){ copy_of(dest, (uint64_t)first * PAGE_BYTES), (size_t)run.count * PAGE_BYTES };
             if (dest->is_handed)
                 handed_forget(&dest->handed, first - LOW_PAGE, run.count);
         }

@@ -28,7 +28,8 @@ void dest_renew_node(struct dest *dest)
     dest_look(dest);
 }
 
-/* The memory is registered before the first thread runs: by a monitor, before it was handed over. The threads run once all slices have arrived here. */
+/* The memory is registered before the first thread runs: by a monitor, before it was handed over. The threads run
+   once all slices have arrived here. */
 static void run_guest(struct dest *dest)
 {
     if (atomic_load(&dest->guest->is_started))
@@ -82,15 +83,16 @@ static void notice_if_resumed(struct dest *dest, const struct frame *frame)
 {
     postmig_effect effect;
 
-    if (dest->is_first_frame && dest->state.phase != POSTMIG_DESTINATION_PAUSED && node_is_resume(frame))
+    if (dest->expects == FIRST_FRAME && dest->state.phase != POSTMIG_DESTINATION_PAUSED && node_is_resume(frame))
         node_do(postmig_destination_notice(&dest->node.handle, &effect));
 }
 
-/* Hostile bytes, or a source that is wrong: the channel is broken, and the node is as it was. The right source may still come. */
+/* Hostile bytes, or a source that is wrong: the channel is broken, and the node is as it was. The right source may
+   still come. */
 static bool refuse_frame(struct dest *dest, const char *reason)
 {
     log_event("destination: %s, epoch %u: %s", dest_source(dest), dest->source.epoch, reason);
-    dest->is_refused = true;
+    dest->expects = NOTHING_MORE;
     return false;
 }
 
@@ -110,20 +112,23 @@ static bool take(struct dest *dest, const struct frame *frame)
         return refuse_frame(dest, OTHER_MEMORY);
     if (effect.kind == POSTMIG_DID_TAKE_PACKAGE) {
         dest->figures.package = kernel_now();
-        if (!dest_settle_copies(dest, effect.count)) { /* the guest has not run here, and what the node would run is not this guest */
+        if (!dest_settle_copies(dest, effect.count)) { /* the guest has not run here, and what the node would run is not
+                                                          this guest */
             dest_renew_node(dest);
             return refuse_frame(dest, OTHER_MEMORY);
         }
     }
     /* (with a Discard or a Package it has switched, whatever it has asked for) */
-    dest_claim(dest, effect.kind == POSTMIG_DID_TAKE_DISCARD || effect.kind == POSTMIG_DID_TAKE_PACKAGE ? CLAIM_BOUND : CLAIM_SENDS);
+    dest_claim(dest,
+               effect.kind == POSTMIG_DID_TAKE_DISCARD || effect.kind == POSTMIG_DID_TAKE_PACKAGE ? CLAIM_BOUND
+                                                                                                  : CLAIM_SENDS);
     carry_out(dest, &effect, frame);
-    dest->is_first_frame = false;
     dest->slices->last_frame = dest->last_turn;
     if (effect.kind != POSTMIG_DID_TAKE_ZERO && effect.kind != POSTMIG_DID_TAKE_RUN) {
         node_sum_frame(false, frame);
         dest_look(dest);
     }
+    dest->expects = dest->state.has_run ? PAGES : WHOLE_FRAMES;
     if (effect.kind == POSTMIG_DID_TAKE_RESUME)
         trace_resumed(dest->state.epoch);
     return true;
@@ -141,7 +146,8 @@ static bool take_urgent(struct dest *dest, const struct frame *frame)
     return true;
 }
 
-/* Pages of the batch, a few at most: so that faults are handled in between. All of these are taken before the first one is installed. */
+/* Pages of the batch, a few at most: so that faults are handled in between. All of these are taken before the first
+   one is installed. */
 static void take_pages(struct dest *dest)
 {
     uint64_t origin[FRAMES_AT_A_TIME] = { 0 };
@@ -181,52 +187,58 @@ static bool front_frame(struct dest *dest, struct stream *stream, struct frame *
     return node_front(stream, frame, missing);
 }
 
-/* Once the guest runs the main connection has pages for the most part. */
-static bool receive_pages(struct dest *dest, size_t missing)
+/* Into the batch where pages are expected. Of the frame at the front of the stream its header must be there: it
+   says how much is `missing`. */
+static bool receive_main(struct dest *dest, size_t missing)
 {
-    size_t got;
-    bool is_whole = batch_receive(&dest->batch, &dest->main, missing, &got);
+    size_t length = stream_length(&dest->main), got;
+    bool is_whole;
 
-    dest_leave(dest, got ? LEFT_PAGES : LEFT_NOTHING);
+    if (dest->expects != PAGES || (length && length < HEADER_BYTES))
+        return stream_receive(&dest->main, missing);
+    is_whole = batch_receive(&dest->batch, &dest->main, length ? missing : 0, &got);
+    dest_has_pending(dest, got ? PENDING_PAGES : PENDING_NOTHING);
     return is_whole;
 }
 
-static bool receive(struct dest *dest, struct stream *stream, size_t missing)
-{
-    size_t length = stream_length(stream);
-
-    if (!stream->is_ready)
-        return true;
-    if (stream == &dest->main && dest->state.has_run && !dest->is_first_frame && (!length || length >= HEADER_BYTES))
-        return receive_pages(dest, length ? missing : 0);
-    return stream_receive(stream, missing);
-}
-
 /* Takes frames of the stream, a few at most. Returns whether more of them may be there that can be taken. */
-static bool take_some(struct dest *dest, struct stream *stream, bool (*take_one)(struct dest *, const struct frame *))
+static bool take_some(struct dest *dest, struct stream *stream)
 {
     struct frame frame;
     size_t missing;
 
     for (uint32_t i = 0; i < FRAMES_AT_A_TIME; i++) {
-        if (!front_frame(dest, stream, &frame, &missing) || !take_one(dest, &frame))
+        if (!front_frame(dest, stream, &frame, &missing) ||
+            !(stream == &dest->urgent ? take_urgent : take)(dest, &frame))
             return false;
         stream_take(stream, frame.head_bytes + frame.page_bytes);
     }
     return true;
 }
 
-static bool take_frames(struct dest *dest, struct stream *stream, bool (*take_one)(struct dest *, const struct frame *))
+/* The frames of the stream are taken; more is received only where no whole one is at its front. */
+static bool take_frames(struct dest *dest, struct stream *stream)
 {
     struct frame frame;
     size_t missing = 0;
-    bool is_whole = front_frame(dest, stream, &frame, &missing) || receive(dest, stream, missing);
+    bool is_whole = true;
 
-    dest_leave(dest, take_some(dest, stream, take_one) ? LEFT_FRAMES : LEFT_NOTHING);
-    return is_whole;
+    if (!front_frame(dest, stream, &frame, &missing) && stream->is_ready)
+        is_whole = stream == &dest->urgent ? stream_receive(stream, missing) : receive_main(dest, missing);
+    dest_has_pending(dest, take_some(dest, stream) ? PENDING_FRAMES : PENDING_NOTHING);
+    return is_whole && dest->expects != NOTHING_MORE;
 }
 
-/* What the batch has follows what the stream has. More is received once no whole Page is left of it. */
+/* What the batch has follows what the stream has: its pages are taken once nothing is left there, and else go there
+   too. */
+static void take_batch(struct dest *dest)
+{
+    if (stream_length(&dest->main))
+        batch_return(&dest->batch, &dest->main);
+    else
+        take_pages(dest);
+}
+
 bool dest_take_main(struct dest *dest)
 {
     struct frame frame;
@@ -234,18 +246,16 @@ bool dest_take_main(struct dest *dest)
     bool is_whole = true;
 
     if (batch_frame(&dest->batch, 0, &frame))
-        dest_leave(dest, LEFT_PAGES);
+        dest_has_pending(dest, PENDING_PAGES);
     else
-        is_whole = take_frames(dest, &dest->main, take);
-    if (stream_length(&dest->main))
-        batch_return(&dest->batch, &dest->main);
-    else
-        take_pages(dest);
-    dest_leave(dest, front_frame(dest, &dest->main, &frame, &missing) ? LEFT_FRAMES : LEFT_NOTHING);
-    return is_whole;
+        is_whole = take_frames(dest, &dest->main);
+    if (dest->expects == PAGES)
+        take_batch(dest);
+    dest_has_pending(dest, front_frame(dest, &dest->main, &frame, &missing) ? PENDING_FRAMES : PENDING_NOTHING);
+    return is_whole && dest->expects != NOTHING_MORE;
 }
 
 bool dest_take_urgent(struct dest *dest)
 {
-    return !stream_is_open(&dest->urgent) || take_frames(dest, &dest->urgent, take_urgent);
+    return !stream_is_open(&dest->urgent) || take_frames(dest, &dest->urgent);
 }

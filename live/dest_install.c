@@ -1,4 +1,4 @@
-/* What the guest is owed: a copy is put where the node says, and then the node makes that step. */
+/* What the guest is owed: a copy is installed where the node says, and then the node makes that step. */
 #include "dest.h"
 
 #include <errno.h>
@@ -6,8 +6,8 @@
 #include "kernel.h"
 #include "log.h"
 
-/* Puts the copy where the node says. False where the kernel has an event that must be read first. */
-static bool put_copy(struct dest *dest, const postmig_effect *effect, const struct frame *frame)
+/* Installs the copy where the node says. False where the kernel has an event that must be read first. */
+static bool install_copy(struct dest *dest, const postmig_effect *effect, const struct frame *frame)
 {
     char *at = watch_page(&dest->watch, effect->addr);
     int error = kernel_copy(dest->watch.userfault, at, frame->page_bytes ? frame->pages : NULL);
@@ -44,7 +44,7 @@ static void make_install(struct dest *dest, const postmig_effect *next)
         wake(dest, effect.addr, effect.other);
 }
 
-/* The same for pages that were put side by side. */
+/* The same for contiguous pages that one call has installed. */
 static void make_installs(struct dest *dest, const postmig_effect *first, const uint64_t *origin, uint32_t count)
 {
     postmig_effect last = *first, effect;
@@ -65,28 +65,31 @@ void dest_install(struct dest *dest, const struct frame *frame)
 
     do
         node_do(postmig_destination_next_install(&dest->node.handle, &next));
-    while (next.kind == POSTMIG_DID_INSTALL && !put_copy(dest, &next, frame));
+    while (next.kind == POSTMIG_DID_INSTALL && !install_copy(dest, &next, frame));
     make_install(dest, &next);
 }
 
-/* How many of these pages of the source are owed side by side from there on, where the node says that the first of them goes. */
-static uint32_t side_by_side(struct dest *dest, const postmig_effect *next, const uint64_t *origin, uint32_t most)
+/* How many of these pages of the source are owed one after the other, from where the node says that the first of
+   them goes. */
+static uint32_t contiguous_from(struct dest *dest, const postmig_effect *next, const uint64_t *origin, uint32_t most)
 {
     const char *at = watch_page(&dest->watch, next->addr);
     uint32_t count = 1, home = 0;
 
-    while (count < most && postmig_destination_home(&dest->node.handle, (uint32_t)(origin[count] / PAGE_BYTES), &home) == POSTMIG_OK &&
-           home == next->addr / PAGE_BYTES + count && watch_page(&dest->watch, (uint64_t)home * PAGE_BYTES) == at + (size_t)count * PAGE_BYTES)
+    while (count < most &&
+           postmig_destination_home(&dest->node.handle, (uint32_t)(origin[count] / PAGE_BYTES), &home) == POSTMIG_OK &&
+           home == next->addr / PAGE_BYTES + count &&
+           watch_page(&dest->watch, (uint64_t)home * PAGE_BYTES) == at + (size_t)count * PAGE_BYTES)
         count++;
     return count;
 }
 
-/* Puts the first copy that waits, and by the same call the contiguous ones after it. Returns how many were installed or dropped; it
-   may be none where the kernel has an event that must be read first. */
+/* Installs the first copy that waits, and by the same call the contiguous ones after it. Returns how many were
+   installed or dropped; it may be none where the kernel has an event that must be read first. */
 static uint32_t install_some(struct dest *dest, const uint8_t *pages, const uint64_t *origin, uint32_t most)
 {
     postmig_effect next;
-    size_t put = 0;
+    size_t installed = 0;
     int error;
 
     node_do(postmig_destination_next_install(&dest->node.handle, &next));
@@ -94,16 +97,17 @@ static uint32_t install_some(struct dest *dest, const uint8_t *pages, const uint
         make_install(dest, &next);
         return 1;
     }
-    error = kernel_copy_pages(dest->watch.userfault, watch_page(&dest->watch, next.addr), pages, side_by_side(dest, &next, origin, most), &put);
-    if (put)
-        make_installs(dest, &next, origin, (uint32_t)put);
+    error = kernel_copy_pages(dest->watch.userfault, watch_page(&dest->watch, next.addr), pages,
+                              contiguous_from(dest, &next, origin, most), &installed);
+    if (installed)
+        make_installs(dest, &next, origin, (uint32_t)installed);
     if (error && error != EAGAIN)
-        watch_unexpected(error, "UFFDIO_COPY", next.addr + put * PAGE_BYTES);
+        watch_unexpected(error, "UFFDIO_COPY", next.addr + installed * PAGE_BYTES);
     if (error)
         watch_again(&dest->watch);
     else
         dest->watch.again_in_a_row = 0;
-    return (uint32_t)put;
+    return (uint32_t)installed;
 }
 
 void dest_install_all(struct dest *dest, const uint8_t *pages, const uint64_t *origin, uint32_t count)

@@ -7,20 +7,21 @@
 #include "log.h"
 #include "operator.h"
 
-static void tell_status(struct dest *dest, char *json, size_t room)
+static void write_status(struct dest *dest, char *json, size_t room)
 {
     struct progress all;
 
     if (!dest->is_held)
         dest_says(dest);
     all = slices_say(dest->slices, POSTMIG_DESTINATION_PAUSED);
-    (void)snprintf(json, room,
-                   "{\"side\":\"destination\",\"migration\":\"%s\",\"phase\":\"%s\",\"runs\":%s,\"connected\":%s,\"epoch\":%u,"
-                   "\"left\":%" PRIu64 ",\"installed\":%" PRIu64 ",\"faults\":%" PRIu64 ",\"waits\":%u,\"breaks\":%" PRIu64 ","
-                   "\"turned_away\":%" PRIu64 ",\"dropped_lines\":%" PRIu64 ",\"stopped_by\":\"%s\"}",
-                   dest->own.migration, dest_phases[all.phase], all.has_run ? "true" : "false", all.is_connected ? "true" : "false", all.epoch,
-                   all.left, all.moved, all.faults, all.waits, all.breaks, all.turned_away, log_dropped(),
-                   operator_text(dest->slices->held)); /* it fits */
+    (void)snprintf(
+        json, room,
+        "{\"side\":\"destination\",\"migration\":\"%s\",\"phase\":\"%s\",\"runs\":%s,\"connected\":%s,\"epoch\":%u,"
+        "\"left\":%" PRIu64 ",\"installed\":%" PRIu64 ",\"faults\":%" PRIu64 ",\"waits\":%u,\"breaks\":%" PRIu64 ","
+        "\"turned_away\":%" PRIu64 ",\"dropped_lines\":%" PRIu64 ",\"stopped_by\":\"%s\"}",
+        dest->own.migration, dest_phases[all.phase], all.has_run ? "true" : "false",
+        all.is_connected ? "true" : "false", all.epoch, all.left, all.moved, all.faults, all.waits, all.breaks,
+        all.turned_away, log_dropped(), operator_text(dest->slices->held)); /* it fits */
 }
 
 /* Why it is not to end, or NULL: pages are still at the source, or the guest may be nowhere else. */
@@ -41,7 +42,7 @@ static void obey(struct dest *dest, const struct order *order)
     const char *reason = reason_to_stay(dest);
 
     if (order->word == WORD_STATUS || order->word == WORD_WATCH) {
-        tell_status(dest, json, sizeof json);
+        write_status(dest, json, sizeof json);
         operator_answer(order, json);
     } else if (order->word == WORD_END || order->word == WORD_SIGNAL || order->word == WORD_ABANDON) {
         if (dest->slices->held ? !operator_abandons(order) : reason && order->word != WORD_ABANDON) {
@@ -63,7 +64,7 @@ void dest_obey(struct dest *dest)
     while (operator_next(&order))
         obey(dest, &order);
     if (operator_is_watched()) {
-        tell_status(dest, json, sizeof json);
+        write_status(dest, json, sizeof json);
         operator_tell(json);
     }
 }

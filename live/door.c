@@ -50,7 +50,8 @@ void door_feed(struct door *door, int file, const struct hello *own)
 /* (a connection is made for the program once something has arrived on it) */
 static int listen_by_tcp(const struct address *address, uint32_t buffer)
 {
-    int file = socket(address->name.ss_family, SOCK_STREAM | SOCK_NONBLOCK | SOCK_CLOEXEC, 0), yes = 1, seconds = PATIENCE_MS / 1000;
+    int file = socket(address->name.ss_family, SOCK_STREAM | SOCK_NONBLOCK | SOCK_CLOEXEC, 0), yes = 1,
+        seconds = PATIENCE_MS / 1000;
 
     if (file < 0 || setsockopt(file, SOL_SOCKET, SO_REUSEADDR, &yes, sizeof yes) ||
         setsockopt(file, IPPROTO_TCP, TCP_DEFER_ACCEPT, &seconds, sizeof seconds))
@@ -124,8 +125,8 @@ static uint32_t places_of(const struct door *door, const struct in6_addr *host)
     return count;
 }
 
-/* Whether the first is to give way before the second: a stranger before the known host, who has said less, whose host has more places, and then
-   who has waited longer. */
+/* Whether the first is to give way before the second: a stranger before the known host, who has said less, whose
+   host has more places, and then who has waited longer. */
 static bool gives_way(const struct door *door, const struct newcomer *one, const struct newcomer *other)
 {
     bool one_is_known = is_known(door, &one->host), other_is_known = is_known(door, &other->host);
@@ -159,13 +160,14 @@ static struct newcomer *place_for(struct door *door, const struct in6_addr *host
     return first;
 }
 
-/* Nobody more is there, or one has gone again; or a newcomer cannot be accepted, which is said once for each reason. */
+/* No one more is there, or one has gone again; or a newcomer cannot be accepted, which is said once for each
+   reason. */
 static void note_lack(struct door *door, int error)
 {
     if (error == EAGAIN || error == ECONNABORTED || error == EINTR || error == door->lack || door->file < 0)
         return;
     door->lack = error;
-    log_event("nobody can be accepted at %s: %s (%s)", door->address->text, strerrorname_np(error), strerror(error));
+    log_event("no one can be accepted at %s: %s (%s)", door->address->text, strerrorname_np(error), strerror(error));
 }
 
 /* Of those that the first door has passed on. */
@@ -199,7 +201,9 @@ static void accept_some(struct door *door)
         }
         host = host_of(&name);
         place = place_for(door, &host);
-        *place = (struct newcomer){ .file = file, .host = host, .tls = tls, .deadline = kernel_now() + (uint64_t)PATIENCE_MS * MILLION };
+        *place = (struct newcomer){
+            .file = file, .host = host, .tls = tls, .deadline = kernel_now() + (uint64_t)PATIENCE_MS * MILLION
+        };
     }
 }
 
@@ -227,7 +231,8 @@ static void refuse_newcomer(struct door *door, struct newcomer *newcomer, const 
 static bool is_going(struct newcomer *newcomer)
 {
     uint8_t bytes[4096];
-    ssize_t got = newcomer->tls ? tls_receive(newcomer->tls, bytes, sizeof bytes) : recv(newcomer->file, bytes, sizeof bytes, MSG_DONTWAIT);
+    ssize_t got = newcomer->tls ? tls_receive(newcomer->tls, bytes, sizeof bytes)
+                                : recv(newcomer->file, bytes, sizeof bytes, MSG_DONTWAIT);
 
     return got > 0 || (got < 0 && (errno == EAGAIN || errno == EINTR));
 }
@@ -276,7 +281,8 @@ static bool is_to_pass(const struct door *door, const struct newcomer *newcomer)
 void door_pass(struct door *first, uint64_t instance)
 {
     for (struct newcomer *it = first->newcomer; it < first->newcomer + MOST_NEWCOMERS; it++) {
-        if (it->file < 0 || it->is_refused || it->length < HELLO_BYTES || it->hello.instance != instance || !is_to_pass(first, it))
+        if (it->file < 0 || it->is_refused || it->length < HELLO_BYTES || it->hello.instance != instance ||
+            !is_to_pass(first, it))
             continue;
         if (write(first->passes[it->hello.slice], it, sizeof *it) == (ssize_t)sizeof *it)
             it->file = -1;

@@ -1,5 +1,5 @@
-/* Where the destination listens. A connection that was accepted is a newcomer until its hello has been read. Only some wait at a time, and none
-   for longer than a moment. */
+/* Where the destination listens. A connection that was accepted is a newcomer until its hello has been read. Only
+   some wait at a time, and none for longer than a moment. */
 #ifndef DOOR_H
 #define DOOR_H
 
@@ -35,13 +35,14 @@ struct door {
     bool is_known;           /* if one was */
     int passes[MOST_SLICES]; /* to the doors after this one, by their slices; -1: none */
     uint64_t turned_away;
-    int lack; /* why nobody could be accepted, as it was said last; an errno */
+    int lack; /* why no one could be accepted, as it was said last; an errno */
 };
 
 /* Listens there. A busy address is refused. */
 void door_open(struct door *door, const struct address *address, uint32_t buffer, const struct hello *own);
 
-/* Nobody listens: the one newcomer is the program at this file, which has all the time that it takes for its hello. */
+/* No one listens: the one newcomer is the program at this file, which has all the time that it takes for its
+   hello. */
 void door_feed(struct door *door, int file, const struct hello *own);
 
 /* The door of a further slice: who comes there was let in by the first one's, which passes it on. */
@@ -53,13 +54,12 @@ void door_pass(struct door *first, uint64_t instance);
 /* The port, where the kernel has chosen it. */
 uint16_t door_port(const struct door *door);
 
-/* Accepts who is there, makes handshakes, reads hellos, and turns strangers and those away that have waited too long. */
+/* Accepts who is there, makes handshakes, reads hellos, and turns strangers and those away that have waited too
+   long. */
 void door_look(struct door *door);
 
 /* Whom the destination waits for. */
-enum others { OTHERS_GO,
-              OTHERS_WAIT,
-              OTHERS_COME };
+enum others { OTHERS_GO, OTHERS_WAIT, OTHERS_COME };
 struct wanted {
     enum channel channel;
     uint32_t least, most; /* epochs */
@@ -67,14 +67,14 @@ struct wanted {
     enum others others;   /* whether another one is turned away, waits, or takes its place */
 };
 
-/* Has the stream use the connection of a newcomer that is wanted. Those of an older epoch are turned away; another source that is to go, and one
-   that does not fit, gets a reason. False if there is none. */
+/* Has the stream use the connection of a newcomer that is wanted. Those of an older epoch are turned away; another
+   source that is to go, and one that does not fit, gets a reason. False if there is none. */
 bool door_take(struct door *door, const struct wanted *wanted, struct stream *stream, struct hello *hello);
 
 /* Adds what the door waits for: at most MOST_NEWCOMERS + 1 files. Returns their number. */
 uint32_t door_files(const struct door *door, struct pollfd *files);
 
-/* Whether somebody waits: door_look is due within PATIENCE_MS. */
+/* Whether someone waits: door_look is due within PATIENCE_MS. */
 bool door_has_newcomer(const struct door *door);
 
 /* The host of the source that was let in, as a text. */

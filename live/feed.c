@@ -32,7 +32,8 @@ static void spawn(const char *command, int file)
     posix_spawnattr_t attributes;
     sigset_t usual, none;
 
-    expect(sigemptyset(&none) || sigemptyset(&usual) || sigaddset(&usual, SIGPIPE) || sigaddset(&usual, SIGHUP) ? errno : 0);
+    expect(sigemptyset(&none) || sigemptyset(&usual) || sigaddset(&usual, SIGPIPE) || sigaddset(&usual, SIGHUP) ? errno
+                                                                                                                : 0);
     expect(posix_spawn_file_actions_init(&actions));
     expect(posix_spawn_file_actions_adddup2(&actions, file, STDIN_FILENO));
     expect(posix_spawn_file_actions_adddup2(&actions, file, STDOUT_FILENO));

@@ -13,7 +13,8 @@ struct samples {
     uint64_t dropped; /* for lack of memory */
 };
 void samples_add(struct samples *samples, uint64_t nanoseconds);
-/* The value in microseconds that the part `of` 1,000 of them does not exceed; 0 where there are none. The samples are sorted then. */
+/* The value in microseconds that the part `of` 1,000 of them does not exceed; 0 where there are none. The samples
+   are sorted then. */
 double samples_part(struct samples *samples, uint32_t of);
 
 /* Whether it is time for another line of progress. */

@@ -44,9 +44,10 @@ static uint64_t address_of(uint32_t page, uint32_t word)
     return (uint64_t)(LOW_PAGE + page) * PAGE_BYTES + word * 8u;
 }
 
-/* The threads' own accesses: the driver copies the same pages meanwhile. What orders the two is the protection of a page and its faults, which the
-   thread sanitizer does not see, so it looks at neither function. */
-static __attribute__((no_sanitize("thread"))) uint64_t read_word(const struct guest *guest, uint32_t thread, uint32_t page, uint32_t word)
+/* The threads' own accesses: the driver copies the same pages meanwhile. What orders the two is the protection of a
+   page and its faults, which the thread sanitizer does not see, so it looks at neither function. */
+static __attribute__((no_sanitize("thread"))) uint64_t read_word(const struct guest *guest, uint32_t thread,
+                                                                 uint32_t page, uint32_t word)
 {
     uint64_t begin = history_begin(), value = *word_at(guest, page, word);
 
@@ -54,7 +55,8 @@ static __attribute__((no_sanitize("thread"))) uint64_t read_word(const struct gu
     return value;
 }
 
-static __attribute__((no_sanitize("thread"))) void store_word(const struct guest *guest, uint32_t thread, uint32_t page, uint32_t word, uint64_t value)
+static __attribute__((no_sanitize("thread"))) void store_word(const struct guest *guest, uint32_t thread, uint32_t page,
+                                                              uint32_t word, uint64_t value)
 {
     uint64_t begin = history_begin();
 
@@ -80,16 +82,13 @@ uint64_t guest_number(const struct guest_plan *plan)
 
 /* THE MEMORY BEFORE THE FIRST OPERATION */
 
-enum filling { UNTOUCHED,
-               ZEROS,
-               PATTERN };
+enum filling { UNTOUCHED, ZEROS, PATTERN };
 
 static enum filling filling_of(const struct guest *guest, uint32_t page)
 {
     uint64_t part = mix((uint64_t)guest->plan.seed << 32 | page) % 100;
 
-    return part < 10 ? UNTOUCHED : part < 15 ? ZEROS
-                                             : PATTERN;
+    return part < 10 ? UNTOUCHED : part < 15 ? ZEROS : PATTERN;
 }
 
 static uint64_t pattern_word(const struct guest *guest, uint32_t page, uint32_t word)
@@ -110,9 +109,10 @@ static uint32_t word_of_slot(const struct guest *guest, uint32_t page, uint32_t 
     return slot * words + (uint32_t)(mix(page) % words);
 }
 
-/* Adds what the driver has done, since `begin`, to the words of a page that the threads use. For the history each slot is a thread's: they are
-   used within one interval. */
-static void add_slots(const struct guest *guest, uint32_t page, uint64_t begin, void (*add)(uint32_t, uint64_t, uint64_t, uint64_t))
+/* Adds what the driver has done, since `begin`, to the words of a page that the threads use. For the history each
+   slot is a thread's: they are used within one interval. */
+static void add_slots(const struct guest *guest, uint32_t page, uint64_t begin,
+                      void (*add)(uint32_t, uint64_t, uint64_t, uint64_t))
 {
     for (uint32_t slot = 0; slot < guest->slots && history_is_open(); slot++) {
         uint32_t word = page ? word_of_slot(guest, page, slot) : slot;
@@ -134,7 +134,7 @@ static void fill_page(struct guest *guest, uint32_t page)
         *word_at(guest, page, 0) = 0;
 }
 
-/* (It was mapped before, and nobody has used it since.) */
+/* (It was mapped before, and no one has used it since.) */
 void guest_fill(struct guest *guest)
 {
     history_map(0, history_begin(), address_of(0, 0), (uint64_t)guest->plan.pages * PAGE_BYTES);
@@ -186,7 +186,8 @@ static uint32_t slots_of_thread(const struct guest *guest)
     return guest->slots / guest->plan.threads;
 }
 
-/* The hot pages are after page 0, the cold ones after them, then those that are given back by any thread, and the balloon is at the end. */
+/* The hot pages are after page 0, the cold ones after them, then those that are given back by any thread, and the
+   balloon is at the end. */
 static void set_tracks(struct guest *guest, struct guest_thread *thread)
 {
     const struct guest_plan *plan = &guest->plan;
@@ -250,7 +251,8 @@ struct place {
     uint32_t page, word;
 };
 
-/* In pages that all threads share, each thread has every slot of which the number is its own modulo their number. */
+/* In pages that all threads share, each thread has every slot of which the number is its own modulo their
+   number. */
 static struct place place_of(const struct guest_thread *thread, const struct track *track, uint64_t item)
 {
     uint32_t threads = thread->guest->plan.threads, each = slots_of_thread(thread->guest), page, slot;
@@ -270,7 +272,8 @@ static uint64_t value_of(const struct guest_thread *thread, uint64_t operation)
     return (uint64_t)(thread->number + 1) << 56 | (operation + 1);
 }
 
-/* What a word that is stored to has before operation k of its thread. In a page that another thread gives back it may be 0 too. */
+/* What a word that is stored to has before operation k of its thread. In a page that another thread gives back it
+   may be 0 too. */
 static uint64_t right_value(const struct guest_thread *thread, const struct track *track, uint64_t item, uint64_t k)
 {
     uint64_t stored = last_before(track, item, k), given = 0;
@@ -329,7 +332,8 @@ static void set_shared_slots(const struct guest *guest, uint32_t page, uint64_t 
 static bool was_taken(const struct guest *guest, uint32_t page, const struct guest_thread *but)
 {
     for (uint32_t i = 0; i < guest->plan.threads; i++)
-        if (&guest->thread[i] != but && last_before(&guest->thread[i].track[TAKEN], page - guest->common_page, guest->thread[i].next))
+        if (&guest->thread[i] != but &&
+            last_before(&guest->thread[i].track[TAKEN], page - guest->common_page, guest->thread[i].next))
             return true;
     return false;
 }
@@ -363,7 +367,8 @@ static void set_state_words(const struct guest *guest, uint64_t *words)
 static void set_words(const struct guest *guest, uint32_t page, uint64_t *words)
 {
     bool is_common = page >= guest->common_page && page < guest->balloon_page;
-    bool is_empty = is_common ? was_taken(guest, page, NULL) : page >= guest->balloon_page && was_given_back(guest, page);
+    bool is_empty =
+        is_common ? was_taken(guest, page, NULL) : page >= guest->balloon_page && was_given_back(guest, page);
 
     if (page == 0) {
         set_state_words(guest, words);
@@ -398,7 +403,8 @@ uint32_t guest_check(struct guest *guest, uint32_t *first_wrong)
 static void give_back(const struct guest_thread *thread, const struct track *track, uint64_t item)
 {
     bool is_own = track == &thread->track[GIVEN];
-    uint32_t page = track->first_page + (uint32_t)item * (is_own ? thread->guest->plan.threads : 1) + (is_own ? thread->number : 0);
+    uint32_t page =
+        track->first_page + (uint32_t)item * (is_own ? thread->guest->plan.threads : 1) + (is_own ? thread->number : 0);
     uint64_t begin = history_begin();
 
     if (madvise(thread->guest->memory + (uint64_t)page * PAGE_BYTES, PAGE_BYTES, MADV_DONTNEED))
@@ -465,7 +471,8 @@ static void note_first(struct guest *guest)
 {
     uint64_t none = 0;
 
-    (void)atomic_compare_exchange_strong(&guest->first_done, &none, kernel_now()); /* another thread may have been first */
+    /* another thread may have been first */
+    (void)atomic_compare_exchange_strong(&guest->first_done, &none, kernel_now());
 }
 
 static void *run_thread(void *argument)
@@ -475,7 +482,8 @@ static void *run_thread(void *argument)
 
     atomic_store(&thread->id, (int)syscall(SYS_gettid));
     while (!atomic_load(&guest->is_started))
-        (void)poll(&(struct pollfd){ .fd = guest->start_event, .events = POLLIN }, 1, -1); /* it is looked at again */
+        /* it is looked at again */
+        (void)poll(&(struct pollfd){ .fd = guest->start_event, .events = POLLIN }, 1, -1);
     note_access(thread);
     if (read_word(guest, thread->number, 0, PLAN_WORD) != guest_number(&guest->plan))
         refuse("this guest was started with other pages, threads, seed, cold, given or shared at the source");
@@ -614,7 +622,8 @@ int guest_verdict(struct guest *guest)
     uint64_t wrong_loads = guest_wrong_loads(guest);
     uint32_t page = 0, wrong = guest_check(guest, &page);
 
-    log_figures("verdict words=%" PRIu64 " operations=%" PRIu64 " wrong_loads=%" PRIu64 " wrong_pages=%u first_wrong=0x%x\n",
+    log_figures("verdict words=%" PRIu64 " operations=%" PRIu64 " wrong_loads=%" PRIu64
+                " wrong_pages=%u first_wrong=0x%x\n",
                 (uint64_t)guest->plan.pages * WORDS, guest_operations(guest), wrong_loads, wrong, LOW_PAGE + page);
     return wrong || wrong_loads ? STATUS_WRONG : STATUS_OK;
 }

@@ -1,8 +1,8 @@
 /* The guest that is migrated: threads that store to words of its memory, load from them, and give pages back.
 
-   Operation k of thread t depends on k, t and the plan alone. So a thread's whole state is the number of its next operation, and what each
-   word of memory must be follows from these numbers. A thread leaves its number in page 0 of the guest when it stops, and takes it from
-   there when it is resumed, on this host or on another. */
+   Operation k of thread t depends on k, t and the plan alone. So a thread's whole state is the number of its next
+   operation, and what each word of memory must be follows from these numbers. A thread leaves its number in page 0
+   of the guest when it stops, and takes it from there when it is resumed, on this host or on another. */
 #ifndef GUEST_H
 #define GUEST_H
 
@@ -23,7 +23,8 @@ struct guest_plan {
     uint32_t shared; /* the same of pages that all threads use, and each gives back under the others */
 };
 
-/* How many processors the node of a slice has: a place for each thread that may wait in it, or all that a node can have. */
+/* How many processors the node of a slice has: a place for each thread that may wait in it, or all that a node can
+   have. */
 uint32_t plan_processors(const struct guest_plan *plan);
 
 /* How fast it runs. */
@@ -32,7 +33,8 @@ struct guest_pace {
     uint32_t pause; /* for this number of microseconds */
 };
 
-/* A part of a thread's operations, and the words that they store to or the pages that they give back, one after the other. */
+/* A part of a thread's operations, and the words that they store to or the pages that they give back, one after the
+   other. */
 struct track {
     uint32_t first, count; /* operations `first` .. `first + count - 1` of each 64 */
     uint32_t first_page;
@@ -40,13 +42,7 @@ struct track {
     uint64_t step, inverse, offset; /* operation x of the track has the item (step x + offset) modulo items */
 };
 
-enum { HOT,
-       COLD,
-       BALLOON,
-       GIVEN,
-       COMMON,
-       TAKEN,
-       TRACKS };
+enum { HOT, COLD, BALLOON, GIVEN, COMMON, TAKEN, TRACKS };
 
 struct guest;
 
@@ -84,12 +80,13 @@ void guest_open(struct guest *guest, const struct guest_plan *plan, const struct
 /* Stores what the memory has before the first operation. */
 void guest_fill(struct guest *guest);
 
-/* Makes the threads, which wait; and has them run, each at the operation that page 0 has for it, once all slices may be accessed. */
+/* Makes the threads, which wait; and has them run, each at the operation that page 0 has for it, once all slices
+   may be accessed. */
 void guest_make(struct guest *guest);
 void guest_start(struct guest *guest);
 
-/* Asks the threads to stop, each between two operations. Their faults and events are still to be handled until all have. Each slice's thread may
-   make these calls: the first one counts. */
+/* Asks the threads to stop, each between two operations. Their faults and events are still to be handled until all
+   have. Each slice's thread may make these calls: the first one counts. */
 void guest_ask_stop(struct guest *guest);
 bool guest_has_stopped(struct guest *guest);
 void guest_join(struct guest *guest);
@@ -113,8 +110,8 @@ uint64_t guest_access_begun(const struct guest *guest, uint32_t thread);
 /* A number of its plan, which two guests have alike. */
 uint64_t guest_number(const struct guest_plan *plan);
 
-/* Compares each word of the memory with what it must be. All threads have stopped, and nobody watches the memory. Returns the number of
-   wrong pages, and the first of them. */
+/* Compares each word of the memory with what it must be. All threads have stopped, and no one watches the memory.
+   Returns the number of wrong pages, and the first of them. */
 uint32_t guest_check(struct guest *guest, uint32_t *first_wrong);
 
 /* The same with the threads' loads, as a line of figures. Returns a status of live.h. */

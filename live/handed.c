@@ -1,4 +1,4 @@
-/* Takes the memory of a monitor, and keeps the copies of pages that cannot be put yet. */
+/* Takes the memory of a monitor, and keeps the copies of pages that cannot be installed yet. */
 #include "handed.h"
 
 #include <ctype.h>
@@ -83,7 +83,8 @@ static bool read_member(const char **text, struct handed_range *range, unsigned 
             *places[i] = number;
         }
     if (page_bytes != PAGE_BYTES)
-        refuse("the monitor's pages have %llu bytes, and here they have %u", (unsigned long long)page_bytes, PAGE_BYTES);
+        refuse("the monitor's pages have %llu bytes, and here they have %u", (unsigned long long)page_bytes,
+               PAGE_BYTES);
     return true;
 }
 
@@ -124,7 +125,8 @@ static bool fit(const struct handed *handed)
         if ((it->at | it->bytes) % PAGE_BYTES || !it->bytes || it->at > UINT64_MAX - it->bytes || it->offset != sum)
             return false;
         for (uint32_t other = 0; other < i; other++)
-            if (it->at < handed->range[other].at + handed->range[other].bytes && handed->range[other].at < it->at + it->bytes)
+            if (it->at < handed->range[other].at + handed->range[other].bytes &&
+                handed->range[other].at < it->at + it->bytes)
                 return false;
         sum += it->bytes;
         if (sum > (uint64_t)MOST_PAGES * PAGE_BYTES)
@@ -153,7 +155,7 @@ static int accept_monitor(const struct address *address)
             break;
         if (file < 0 && errno != EAGAIN && errno != ECONNABORTED)
             refuse_errno(errno, "a monitor cannot be accepted");
-        log_event("somebody at %s is no process of this user: turned away", address->text);
+        log_event("someone at %s is no process of this user: turned away", address->text);
         if (file >= 0)
             (void)close(file); /* nothing was written */
     }
@@ -167,7 +169,8 @@ static int descriptor_of(struct msghdr *message)
     struct cmsghdr *part = CMSG_FIRSTHDR(message);
     int file;
 
-    if (!part || part->cmsg_level != SOL_SOCKET || part->cmsg_type != SCM_RIGHTS || part->cmsg_len != CMSG_LEN(sizeof file))
+    if (!part || part->cmsg_level != SOL_SOCKET || part->cmsg_type != SCM_RIGHTS ||
+        part->cmsg_len != CMSG_LEN(sizeof file))
         return -1;
     memcpy(&file, CMSG_DATA(part), sizeof file);
     return file;
@@ -181,7 +184,9 @@ static void receive(struct handed *handed, char *text)
         char bytes[CMSG_SPACE(sizeof(int))];
     } control = { 0 };
     struct iovec part = { text, MOST_TEXT };
-    struct msghdr message = { .msg_iov = &part, .msg_iovlen = 1, .msg_control = &control, .msg_controllen = sizeof control };
+    struct msghdr message = {
+        .msg_iov = &part, .msg_iovlen = 1, .msg_control = &control, .msg_controllen = sizeof control
+    };
     ssize_t got;
 
     wait_until_readable(handed->monitor, "list of the monitor's memory");
@@ -237,14 +242,16 @@ bool handed_has_stopped(struct handed *handed)
 
 void handed_leave(struct handed *handed, bool (*meanwhile)(uint32_t milliseconds))
 {
-    struct pollfd files[] = { { .fd = handed->monitor, .events = POLLIN }, { .fd = handed->userfault, .events = POLLIN } };
+    struct pollfd files[] = { { .fd = handed->monitor, .events = POLLIN },
+                              { .fd = handed->userfault, .events = POLLIN } };
     struct uffd_msg unread[MOST_UNREAD];
     bool is_ended = false;
 
     if (handed_has_stopped(handed))
         refuse("the guest has stopped, and was not asked to");
     for (uint32_t i = 0; i < handed->ranges; i++)
-        kernel_unregister(handed->userfault, handed_page(handed, handed->range[i].offset / PAGE_BYTES), handed->range[i].bytes);
+        kernel_unregister(handed->userfault, handed_page(handed, handed->range[i].offset / PAGE_BYTES),
+                          handed->range[i].bytes);
     handed_say(handed, HANDED_STOP);
     log_event("all pages are put: waiting until the monitor says that its threads have stopped");
     while (!is_ended && !handed_has_stopped(handed)) {
@@ -254,7 +261,8 @@ void handed_leave(struct handed *handed, bool (*meanwhile)(uint32_t milliseconds
         is_ended = meanwhile && meanwhile(0);
     }
     if (is_ended)
-        log_event("the operator ends the wait: the monitor has all pages, and has not said that its threads have stopped");
+        log_event(
+            "the operator ends the wait: the monitor has all pages, and has not said that its threads have stopped");
     (void)close(handed->userfault); /* nothing was written to it */
     (void)close(handed->monitor);   /* nor waits for the monitor */
     free(handed->kept);
@@ -268,7 +276,8 @@ char *handed_page(const struct handed *handed, uint64_t page)
         const struct handed_range *it = &handed->range[i];
 
         if (page * PAGE_BYTES >= it->offset && page * PAGE_BYTES - it->offset < it->bytes)
-            return (char *)(uintptr_t)(it->at + page * PAGE_BYTES - it->offset); // NOLINT(performance-no-int-to-ptr): it is the monitor's
+            return (char *)(uintptr_t)(it->at + page * PAGE_BYTES - it->offset); // NOLINT(performance-no-int-to-ptr):
+                                                                                 // it is the monitor's
     }
     refuse("page %llu is not the monitor's", (unsigned long long)page);
 }
@@ -283,7 +292,8 @@ uint64_t handed_number(const struct handed *handed, uint64_t at)
 
 static void set_kept(struct handed *handed, uint64_t first, uint64_t count, enum kept now)
 {
-    for (uint64_t page = first; page < first + count && page < handed->pages; page++) {
+    require(first <= handed->pages && count <= handed->pages - first);
+    for (uint64_t page = first; page < first + count; page++) {
         handed->kept_pages -= handed->kept[page] == KEPT;
         handed->kept_pages += now == KEPT;
         handed->kept[page] = (uint8_t)now;
@@ -300,10 +310,12 @@ void handed_forget(struct handed *handed, uint64_t first, uint64_t count)
     set_kept(handed, first, count, NOT_KEPT);
 }
 
-int handed_put(struct handed *handed, uint64_t page)
+int handed_install(struct handed *handed, uint64_t page)
 {
-    int error = kernel_copy(handed->userfault, handed_page(handed, page), handed->copies + page * PAGE_BYTES);
+    int error;
 
+    require(handed->kept[page] == KEPT);
+    error = kernel_copy(handed->userfault, handed_page(handed, page), handed->copies + page * PAGE_BYTES);
     if (!error)
         set_kept(handed, page, 1, WAS_KEPT);
     return error;

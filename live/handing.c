@@ -30,17 +30,19 @@ int handing_connect(const struct address *address, uint32_t patience)
         (void)close(file);      /* nothing was written */
         (void)poll(NULL, 0, 2); /* a shorter sleep is as good */
     }
-    lose("no handler at %s for %" PRIu32 " s: %s (%s)", address->text, patience, strerrorname_np(error), strerror(error));
+    lose("no handler at %s for %" PRIu32 " s: %s (%s)", address->text, patience, strerrorname_np(error),
+         strerror(error));
 }
 
 static size_t write_list(char *text, const struct handed_range *ranges, uint32_t count)
 {
-    static const char form[] = "%c{\"base_host_virt_addr\":%" PRIu64 ",\"size\":%" PRIu64 ",\"offset\":%" PRIu64 ",\"page_size\":%u}";
+    static const char form[] =
+        "%c{\"base_host_virt_addr\":%" PRIu64 ",\"size\":%" PRIu64 ",\"offset\":%" PRIu64 ",\"page_size\":%u}";
     size_t length = 0;
 
     for (uint32_t i = 0; i < count; i++)
-        length += (size_t)snprintf(text + length, MOST_TEXT - length, form, i ? ',' : '[', ranges[i].at, ranges[i].bytes, ranges[i].offset,
-                                   PAGE_BYTES); /* all of it fits */
+        length += (size_t)snprintf(text + length, MOST_TEXT - length, form, i ? ',' : '[', ranges[i].at,
+                                   ranges[i].bytes, ranges[i].offset, PAGE_BYTES); /* all of it fits */
     text[length++] = ']';
     return length;
 }
@@ -53,12 +55,15 @@ void handing_give(int handler, int userfault, const struct handed_range *ranges,
         char bytes[CMSG_SPACE(sizeof(int))];
     } control = { 0 };
     struct iovec part = { text, 0 };
-    struct msghdr message = { .msg_iov = &part, .msg_iovlen = 1, .msg_control = &control, .msg_controllen = sizeof control };
+    struct msghdr message = {
+        .msg_iov = &part, .msg_iovlen = 1, .msg_control = &control, .msg_controllen = sizeof control
+    };
 
     if (!count || count > MOST_HANDED)
         refuse("a monitor hands over 1 to %u ranges", MOST_HANDED);
     part.iov_len = write_list(text, ranges, count);
-    control.header = (struct cmsghdr){ .cmsg_level = SOL_SOCKET, .cmsg_type = SCM_RIGHTS, .cmsg_len = CMSG_LEN(sizeof userfault) };
+    control.header =
+        (struct cmsghdr){ .cmsg_level = SOL_SOCKET, .cmsg_type = SCM_RIGHTS, .cmsg_len = CMSG_LEN(sizeof userfault) };
     memcpy(CMSG_DATA(&control.header), &userfault, sizeof userfault);
     if (sendmsg(handler, &message, MSG_NOSIGNAL) != (ssize_t)part.iov_len)
         refuse_errno(errno, "the memory cannot be handed over");

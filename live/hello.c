@@ -82,7 +82,8 @@ static bool read_text(char *text, const uint8_t *bytes, uint32_t room)
 
 bool hello_read(struct hello *hello, const uint8_t *bytes, uint32_t length)
 {
-    if (memcmp(bytes, GREETING, length < sizeof GREETING ? length : sizeof GREETING) || (length > 7 && bytes[7] > URGENT))
+    if (memcmp(bytes, GREETING, length < sizeof GREETING ? length : sizeof GREETING) ||
+        (length > 7 && bytes[7] > URGENT))
         return false;
     if (length < HELLO_BYTES)
         return true;
@@ -98,7 +99,8 @@ bool hello_read(struct hello *hello, const uint8_t *bytes, uint32_t length)
     hello->most_processors = (uint32_t)read_number(bytes + 44, 2);
     hello->slices = bytes[46] + 1u;
     hello->slice = bytes[47];
-    return hello->slice < hello->slices && !(hello->flags & ~FLAGS) && read_text(hello->migration, bytes + NAME_AT, MOST_OF_NAME) &&
+    return hello->slice < hello->slices && !(hello->flags & ~FLAGS) &&
+        read_text(hello->migration, bytes + NAME_AT, MOST_OF_NAME) &&
         read_text(hello->reason, bytes + REASON_AT, MOST_OF_REASON);
 }
 
@@ -114,7 +116,8 @@ static bool is_unlike(char *reason, const char *what, uint64_t source, uint64_t 
 bool hello_unlike(const struct hello *source, const struct hello *destination, char *reason)
 {
     if (strcmp(source->migration, destination->migration)) {
-        (void)snprintf(reason, MOST_OF_REASON + 1, "--migration: source `%s`, destination `%s`", source->migration, destination->migration);
+        (void)snprintf(reason, MOST_OF_REASON + 1, "--migration: source `%s`, destination `%s`", source->migration,
+                       destination->migration);
         return true;
     }
     if (is_unlike(reason, "--slices", source->slices, destination->slices) ||
@@ -124,12 +127,14 @@ bool hello_unlike(const struct hello *source, const struct hello *destination, c
         is_unlike(reason, "--threads", source->processors, destination->processors))
         return true;
     if (source->pages > destination->most_pages || source->processors > destination->most_processors) {
-        (void)snprintf(reason, MOST_OF_REASON + 1, "the guest is too large: the destination has at most %u pages, %u threads",
+        (void)snprintf(reason, MOST_OF_REASON + 1,
+                       "the guest is too large: the destination has at most %u pages, %u threads",
                        destination->most_pages, destination->most_processors); /* it fits */
         return true;
     }
     if (!(source->flags & destination->flags & HELLO_HAS_GUEST) || source->guest == destination->guest)
         return false;
-    (void)snprintf(reason, MOST_OF_REASON + 1, "another guest: --threads, --seed, --cold, --given or --shared differ"); /* it fits */
+    /* it fits */
+    (void)snprintf(reason, MOST_OF_REASON + 1, "another guest: --threads, --seed, --cold, --given or --shared differ");
     return true;
 }

@@ -1,13 +1,13 @@
-/* What each connection begins with, in both directions of the main one: HELLO_BYTES that tell who it is and which migration this is. What both
-   sides must have alike is compared before the first page. docs/FORMATS.md has the bytes. */
+/* What each connection begins with, in both directions of the main one: HELLO_BYTES that tell who it is and which
+   migration this is. What both sides must have alike is compared before the first page. docs/FORMATS.md has the
+   bytes. */
 #ifndef HELLO_H
 #define HELLO_H
 
 #include <stdbool.h>
 #include <stdint.h>
 
-enum channel { MAIN,
-               URGENT };
+enum channel { MAIN, URGENT };
 
 #define HELLO_BYTES 192u
 #define MOST_OF_NAME 32u    /* bytes of the migration's name, */
@@ -33,12 +33,14 @@ struct hello {
 
 struct options;
 
-/* That of this process: of its options, with a new number, for the first slice. has_guest: its guest is that of this program. */
+/* That of this process: of its options, with a new number, for the first slice. has_guest: its guest is that of
+   this program. */
 void hello_begin(struct hello *own, const struct options *options, bool has_guest);
 
 void hello_write(const struct hello *hello, uint8_t *bytes);
 
-/* False where these bytes, or the first of them, are a stranger's; `length` is at most HELLO_BYTES. The hello is read where all are there. */
+/* False where these bytes, or the first of them, are a stranger's; `length` is at most HELLO_BYTES. The hello is
+   read where all are there. */
 bool hello_read(struct hello *hello, const uint8_t *bytes, uint32_t length);
 
 /* Why the two cannot migrate, in words for both, or false. */

@@ -23,7 +23,8 @@ static struct {
 static void give_up(int error)
 {
     if (!atomic_exchange(&history.has_failed, true))
-        log_event("the history ends after %" PRIu64 " lines: %s (%s)", atomic_load(&history.lines), strerrorname_np(error), strerror(error));
+        log_event("the history ends after %" PRIu64 " lines: %s (%s)", atomic_load(&history.lines),
+                  strerrorname_np(error), strerror(error));
 }
 
 void history_open(const char *path)
@@ -75,7 +76,8 @@ static __attribute__((format(printf, 3, 4))) void add(uint32_t thread, uint64_t 
 
     va_start(arguments, format);
     flockfile(history.file);
-    is_written = fprintf(history.file, "%" PRIu32 " %" PRIu64 " %" PRIu64 " ", thread, begin, end) >= 0 && vfprintf(history.file, format, arguments) >= 0;
+    is_written = fprintf(history.file, "%" PRIu32 " %" PRIu64 " %" PRIu64 " ", thread, begin, end) >= 0 &&
+        vfprintf(history.file, format, arguments) >= 0;
     if (!is_written)
         give_up(errno);
     funlockfile(history.file);
@@ -111,7 +113,8 @@ void history_close(void)
 {
     if (!history.file)
         return;
-    if (!atomic_load(&history.has_failed) && fprintf(history.file, "end %" PRIu64 "\n", atomic_load(&history.lines)) < 0)
+    if (!atomic_load(&history.has_failed) &&
+        fprintf(history.file, "end %" PRIu64 "\n", atomic_load(&history.lines)) < 0)
         give_up(errno);
     if (fclose(history.file))
         give_up(errno);

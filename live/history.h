@@ -1,5 +1,6 @@
-/* The accesses of the guest's threads, line by line, in a file: `histories.py` joins those of a source and of a destination, and `postmig history`
-   judges them. The language is that of docs/HISTORY.md; an access took effect between two readings of the monotonic clock. */
+/* The accesses of the guest's threads, line by line, in a file: `histories.py` joins those of a source and of a
+   destination, and `postmig history` judges them. The language is that of docs/HISTORY.md; an access took effect
+   between two readings of the monotonic clock. */
 #ifndef HISTORY_H
 #define HISTORY_H
 
@@ -19,7 +20,8 @@ void history_store(uint32_t thread, uint64_t begin, uint64_t address, uint64_t v
 void history_map(uint32_t thread, uint64_t begin, uint64_t address, uint64_t length);
 void history_give_back(uint32_t thread, uint64_t begin, uint64_t address, uint64_t length);
 
-/* The threads have ended, and nothing more is written. A history without this is no history: its last line is missing. */
+/* The threads have ended, and nothing more is written. A history without this is no history: its last line is
+   missing. */
 void history_close(void);
 
 #endif

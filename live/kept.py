@@ -33,7 +33,7 @@ def stopped(program, side, seconds):
     time.sleep(seconds)
     is_noticed = pair.wait_until(lambda: other.status("breaks"))
     stopped_one.process.send_signal(signal.SIGCONT)
-    return both.finish() or (None if is_noticed else "nobody notices it")
+    return both.finish() or (None if is_noticed else "no one notices it")
 
 
 def a_stopped_destination(program):
@@ -288,7 +288,7 @@ def not_cancelled_after_the_switch(program):
 
 
 def a_control_socket_that_is_abused(program):
-    """More clients than there are places, lines that are none, lines without end, and answers that nobody reads; then a
+    """More clients than there are places, lines that are none, lines without end, and answers that no one reads; then a
     right word."""
     both = hurt.Watched(program, hurt.SLOW)
     both.at("destination running")

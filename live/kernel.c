@@ -20,9 +20,9 @@
 #include "live.h"
 #include "sums.h"
 
-#define FEATURES                                                                                                        \
-    (UFFD_FEATURE_PAGEFAULT_FLAG_WP | UFFD_FEATURE_EVENT_REMAP | UFFD_FEATURE_EVENT_REMOVE | UFFD_FEATURE_EVENT_UNMAP | \
-     UFFD_FEATURE_THREAD_ID)
+#define FEATURES                                                                             \
+    (UFFD_FEATURE_PAGEFAULT_FLAG_WP | UFFD_FEATURE_EVENT_REMAP | UFFD_FEATURE_EVENT_REMOVE | \
+     UFFD_FEATURE_EVENT_UNMAP | UFFD_FEATURE_THREAD_ID)
 /* A thread without a processor cannot finish its call. The driver yields this number of times before it sleeps. */
 #define YIELDS 8u
 #define LEAST_NICE (-20)
@@ -69,9 +69,10 @@ const char *kernel_go_first(void)
 {
     cpu_set_t set;
 
-    if (!sched_getaffinity(0, sizeof set, &set) && CPU_COUNT(&set) > 1 && set_policy(SCHED_RR, sched_get_priority_min(SCHED_RR))) {
+    if (!sched_getaffinity(0, sizeof set, &set) && CPU_COUNT(&set) > 1 &&
+        set_policy(SCHED_RR, sched_get_priority_min(SCHED_RR))) {
         first.is_allowed = first.is_now = true;
-        return "SCHED_RR while somebody waits";
+        return "SCHED_RR while someone waits";
     }
     if (!setpriority(PRIO_PROCESS, (id_t)gettid(), LEAST_NICE))
         return "nice";
@@ -113,8 +114,8 @@ void kernel_reserve(size_t bytes)
 {
     void *volatile all; /* (else a compiler may leave all of it out) */
 
-    /* All of the heap is one piece, which is never made smaller, and no allocation is a mapping of its own. (Another malloc(3) than glibc's
-       has no such settings: there this only asks whether it is there.) */
+    /* All of the heap is one piece, which is never made smaller, and no allocation is a mapping of its own.
+       (Another malloc(3) than glibc's has no such settings: there this only asks whether it is there.) */
     (void)mallopt(M_MMAP_MAX, 0);
     (void)mallopt(M_TRIM_THRESHOLD, INT_MAX);
     (void)mallopt(M_ARENA_MAX, 1);
@@ -139,7 +140,8 @@ char *kernel_map(size_t bytes)
     return at;
 }
 
-/* By the system call, by the device, or for faults in user mode alone, which needs no privilege and is enough here. */
+/* By the system call, by the device, or for faults in user mode alone, which needs no privilege and is enough
+   here. */
 static int new_userfault(void)
 {
     const int flags = O_CLOEXEC | O_NONBLOCK;
@@ -161,10 +163,14 @@ int kernel_open_userfault(void)
     int made = new_userfault();
 
     if (made < 0)
-        refuse_errno(errno, "there is no userfaultfd(2) for this user. `sysctl -w vm.unprivileged_userfaultfd=1` opens it for all, "
-                            "else root is needed");
+        refuse_errno(
+            errno,
+            "there is no userfaultfd(2) for this user. `sysctl -w vm.unprivileged_userfaultfd=1` opens it for all, "
+            "else root is needed");
     if (ioctl(made, UFFDIO_API, &api))
-        refuse_errno(errno, "this kernel lacks some of the features of userfaultfd(2) that are needed, 0x%llx; Linux 5.7 or later has them",
+        refuse_errno(errno,
+                     "this kernel lacks some of the features of userfaultfd(2) that are needed, 0x%llx; Linux 5.7 or "
+                     "later has them",
                      (unsigned long long)FEATURES);
     return made;
 }
@@ -207,22 +213,23 @@ void kernel_unregister(int userfault, char *at, size_t bytes)
 
     if (ioctl(userfault, UFFDIO_UNREGISTER, &range))
         refuse_errno(errno, "UFFDIO_UNREGISTER of the guest's memory");
-    /* (The kernel wakes before it clears the range, and nobody at a protected page: who faults in between would sleep for ever.) */
+    /* (The kernel wakes before it clears the range, and no one at a protected page: who faults in between would
+       sleep for ever.) */
     if (ioctl(userfault, UFFDIO_WAKE, &range))
         refuse_errno(errno, "UFFDIO_WAKE of the guest's memory");
 }
 
-int kernel_copy_pages(int userfault, char *to, const void *from, size_t pages, size_t *put)
+int kernel_copy_pages(int userfault, char *to, const void *from, size_t pages, size_t *installed)
 {
     struct uffdio_copy call = { .dst = (uintptr_t)to, .src = (uintptr_t)from, .len = pages * PAGE_BYTES };
     int error = call_userfault(userfault, UFFDIO_COPY, "UFFDIO_COPY", &call);
 
-    *put = call.copy > 0 ? (size_t)call.copy / PAGE_BYTES : 0; /* else it is an errno, or was not written */
-    sums_put(to, from, *put);
+    *installed = call.copy > 0 ? (size_t)call.copy / PAGE_BYTES : 0; /* else it is an errno, or was not written */
+    sums_installed(to, from, *installed);
     return error;
 }
 
-static int put_zeros(int userfault, char *to, uint64_t mode)
+static int install_zeros(int userfault, char *to, uint64_t mode)
 {
     struct uffdio_zeropage call = { .range = range_of(to, PAGE_BYTES), .mode = mode };
 
@@ -231,25 +238,25 @@ static int put_zeros(int userfault, char *to, uint64_t mode)
 
 int kernel_copy(int userfault, char *to, const void *from)
 {
-    size_t put;
+    size_t installed;
     int error;
 
     if (from)
-        return kernel_copy_pages(userfault, to, from, 1, &put);
-    error = put_zeros(userfault, to, 0);
+        return kernel_copy_pages(userfault, to, from, 1, &installed);
+    error = install_zeros(userfault, to, 0);
     if (!error)
-        sums_put(to, NULL, 1);
+        sums_installed(to, NULL, 1);
     return error;
 }
 
 int kernel_zero(int userfault, char *to)
 {
-    return put_zeros(userfault, to, 0);
+    return install_zeros(userfault, to, 0);
 }
 
 int kernel_zero_asleep(int userfault, char *to)
 {
-    return put_zeros(userfault, to, UFFDIO_ZEROPAGE_MODE_DONTWAKE);
+    return install_zeros(userfault, to, UFFDIO_ZEROPAGE_MODE_DONTWAKE);
 }
 
 int kernel_unprotect(int userfault, char *at, size_t bytes)

@@ -1,5 +1,5 @@
-/* The calls of the kernel that move a guest's memory. A call that may be refused returns 0 or an errno; every other refusal ends the
-   program. */
+/* The calls of the kernel that move a guest's memory. A call that may be refused returns 0 or an errno; every other
+   refusal ends the program. */
 #ifndef KERNEL_H
 #define KERNEL_H
 
@@ -14,14 +14,17 @@ uint64_t kernel_now(void);
 /* Nanoseconds of processor time that this thread has used. */
 uint64_t kernel_thread_time(void);
 
-/* Whether and how the calling thread can run before others that want a processor, for people. From then on kernel_first has it do so, or not. */
+/* Whether and how the calling thread can run before others that want a processor, for people. From then on
+   kernel_first has it do so, or not. */
 const char *kernel_go_first(void);
 void kernel_first(bool is_first);
 
-/* Gives the processor to somebody else, after the kernel has refused a call for the `times`th time in a row: for a moment at first. */
+/* Gives the processor to someone else, after the kernel has refused a call for the `times`th time in a row: for a
+   moment at first. */
 void kernel_yield(uint32_t times);
 
-/* Takes this much of the heap, and gives it back to malloc(3) alone: what is allocated later is there. Refused where there is less. */
+/* Takes this much of the heap, and gives it back to malloc(3) alone: what is allocated later is there. Refused
+   where there is less. */
 void kernel_reserve(size_t bytes);
 
 /* Anonymous memory of this many bytes, of which no part is ever a huge page. */
@@ -34,18 +37,21 @@ int kernel_open_userfault(void);
 void kernel_register(int userfault, char *at, size_t bytes, bool with_protection);
 void kernel_unregister(int userfault, char *at, size_t bytes);
 
-/* Each returns 0, EAGAIN while an event is unread, or what else the kernel says. Where it is 0 the threads that sleep there were woken. */
-int kernel_copy(int userfault, char *to, const void *from);                                  /* `from` NULL: of a page of zeros */
-int kernel_copy_pages(int userfault, char *to, const void *from, size_t pages, size_t *put); /* EAGAIN: `put` of them, maybe 0, were put */
+/* Each returns 0, EAGAIN while an event is unread, or what else the kernel says. Where it is 0 the threads that
+   sleep there were woken. */
+int kernel_copy(int userfault, char *to, const void *from); /* `from` NULL: of a page of zeros */
+/* EAGAIN: `installed` of them, maybe 0, were */
+int kernel_copy_pages(int userfault, char *to, const void *from, size_t pages, size_t *installed);
 int kernel_zero(int userfault, char *to);
-int kernel_zero_asleep(int userfault, char *to); /* but this one wakes nobody */
+int kernel_zero_asleep(int userfault, char *to); /* but this one wakes no one */
 int kernel_unprotect(int userfault, char *at, size_t bytes);
 int kernel_wake(int userfault, char *at);
 
-/* Protects a range, which wakes nobody. */
+/* Protects a range, which wakes no one. */
 int kernel_protect(int userfault, char *at, size_t bytes);
 
-/* Copies pages of memory that a thread may be giving back just now, in which the caller must not fault itself. False where one is missing. */
+/* Copies pages of memory that a thread may be giving back just now, in which the caller must not fault itself.
+   False where one is missing. */
 bool kernel_peek(const char *at, size_t bytes, void *to);
 
 /* Reads messages that wait, at most `most` of them. Returns their number. */

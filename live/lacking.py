@@ -1,4 +1,4 @@
-"""After the switch: memory that is lacking, answers of the kernel that nobody expects. Before it: a place at the door
+"""After the switch: memory that is lacking, answers of the kernel that no one expects. Before it: a place at the door
 that is taken by the wrong one. Each case returns what is wrong, or None."""
 
 import contextlib
@@ -94,7 +94,7 @@ def answers_that_nobody_expects(program):
 
 
 def a_source_that_is_held(program):
-    """Its pages are nowhere else: after an answer that nobody expects it keeps them, until it is abandoned."""
+    """Its pages are nowhere else: after an answer that no one expects it keeps them, until it is abandoned."""
     if kept.is_sanitized(program):
         return None
     with tempfile.TemporaryDirectory(prefix="live-") as folder:
@@ -207,7 +207,7 @@ PACKAGE = bytes.fromhex("02050000000000010000001e0000000100000010000008000200000
 
 
 def another_source_after_the_promise(program):
-    """Once a source may have switched nobody takes its place, and a signal does not end the destination: it has asked,
+    """Once a source may have switched no one takes its place, and a signal does not end the destination: it has asked,
     it does not know how, it has sent its Discard, or it has switched without."""
     discard = hurt.ADVISE + DISCARD
     for flags, sign, reply in ((5, b"\1", b"\1"), (0, b"", b""), (0, discard, b""), (5, discard + PACKAGE, b"")):

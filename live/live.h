@@ -28,25 +28,30 @@ _Noreturn void refuse(const char *format, ...) __attribute__((format(printf, 1, 
 /* The same with the text of an errno after it. */
 _Noreturn void refuse_errno(int error, const char *format, ...) __attribute__((format(printf, 2, 3)));
 
-/* The same with STATUS_LOST, whatever is to be kept. */
+/* What a caller must hold. Where it does not, this is a fault of the program, which is refused as any other is: a
+   guest that is here is kept. */
+#define require(condition) ((condition) ? (void)0 : refuse("%s: %s does not hold", __func__, #condition))
+
+/* The same as refuse with STATUS_LOST, whatever is to be kept. */
 _Noreturn void lose(const char *format, ...) __attribute__((format(printf, 1, 2)));
 
 /* The caller is a thread of the driver, which has a node. What follows is of each such thread by itself. */
 void live_begin(void);
 
-/* What becomes of the process where something is refused in this thread. `keep` gets the reason, once it is written, and returns the
-   status of the program; NULL: it ends at once. */
+/* What becomes of the process where something is refused in this thread. `keep` gets the reason, once it is
+   written, and returns the status of the program; NULL: it ends at once. */
 struct keeping {
     int (*keep)(const char *why);
-    bool (*meanwhile)(uint32_t milliseconds); /* waits, and returns whether the operator ends the process; NULL: nothing is waited for */
+    bool (*meanwhile)(uint32_t milliseconds); /* waits, and returns whether the operator ends the process; NULL: nothing
+                                                 is waited for */
 };
 void live_keep(struct keeping keeping);
 
 /* What a side says once it does nothing more, and keeps what it has. */
 #define HELD "all that is here is kept as it is, and nothing is done any more, until the operator abandons it"
 
-/* Something is lacking that there may be later. With `meanwhile` this waits, longer from time to time, and returns: the caller tries again. Else
-   it is the same as refuse_errno, or refuse where `error` is 0. */
+/* Something is lacking that there may be later. With `meanwhile` this waits, longer from time to time, and returns:
+   the caller tries again. Else it is the same as refuse_errno, or refuse where `error` is 0. */
 void lack(int error, const char *format, ...) __attribute__((format(printf, 2, 3)));
 
 #endif

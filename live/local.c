@@ -16,7 +16,7 @@ static const char *path_of(const struct address *address)
     return ((const struct sockaddr_un *)(const void *)&address->name)->sun_path;
 }
 
-/* A socket where nobody listens refuses a connection. (What is not a socket does that too.) */
+/* A socket where no one listens refuses a connection. (What is not a socket does that too.) */
 void local_remove_stale(const struct address *address)
 {
     struct stat status;
@@ -26,7 +26,7 @@ void local_remove_stale(const struct address *address)
         return; /* bind(2) says what is there */
     file = wire_connect(address, 0);
     if (file >= 0)
-        (void)close(file); /* somebody listens: bind(2) says so */
+        (void)close(file); /* someone listens: bind(2) says so */
     else if (errno == ECONNREFUSED)
         (void)unlink(path_of(address)); /* if it stays, bind(2) says so */
 }
@@ -40,7 +40,8 @@ int local_listen(const struct address *address, int waiting)
         refuse_errno(errno, "a socket");
     local_remove_stale(address);
     if (bind(door, (const struct sockaddr *)&address->name, address->length) || listen(door, waiting))
-        refuse_errno(errno, errno == EADDRINUSE ? "%s is in use by another program, or is no socket" : "%s", address->text);
+        refuse_errno(errno, errno == EADDRINUSE ? "%s is in use by another program, or is no socket" : "%s",
+                     address->text);
     (void)umask(mask); /* it always succeeds */
     return door;
 }

@@ -6,8 +6,8 @@
 
 struct address;
 
-/* Listens at a Unix address. A socket there whose program is gone is removed; any other file, a symbolic link too, is refused as in use. Only the
-   user's own processes, and root's, may connect. */
+/* Listens at a Unix address. A socket there whose program is gone is removed; any other file, a symbolic link too,
+   is refused as in use. Only the user's own processes, and root's, may connect. */
 int local_listen(const struct address *address, int waiting);
 
 /* The removal alone, before bind(2). */

@@ -59,9 +59,9 @@ def lets_in_only(program, key, others):
 
 def keys_at_the_door(program):
     with folder() as name:
-        key, other, user = pair.new_key(name), pair.new_key(name, "other"), pair.new_key(name, "user", "somebody")
+        key, other, user = pair.new_key(name), pair.new_key(name, "other"), pair.new_key(name, "user", "someone")
         same = pathlib.Path(name, "same")
-        same.write_text(pathlib.Path(key[1]).read_text().replace("guest:", "somebody:"))
+        same.write_text(pathlib.Path(key[1]).read_text().replace("guest:", "someone:"))
         same.chmod(0o600)
         return lets_in_only(
             program,

@@ -54,7 +54,8 @@ static bool write_all(const struct line *line)
     return true;
 }
 
-/* Writes the first line, if that does not take longer than this. The lock is held before and after it. False if it was not written. */
+/* Writes the first line, if that does not take longer than this. The lock is held before and after it. False if it
+   was not written. */
 static bool write_first(int most_ms)
 {
     struct line line = ring.line[ring.first];
@@ -141,15 +142,14 @@ static void put(int file, const char *text, size_t length)
     if (ring.is_open)
         add(file, text, length, may_wait ? LINES : LINES / 2);
     else
-        (void)!write(file, text, length); /* there is nobody to tell */
+        (void)!write(file, text, length); /* there is no one to tell */
 }
 
 static size_t print(char *text, size_t room, const char *format, va_list arguments)
 {
     int length = vsnprintf(text, room, format, arguments);
 
-    return length < 0 ? 0 : (size_t)length < room ? (size_t)length
-                                                  : room - 1;
+    return length < 0 ? 0 : (size_t)length < room ? (size_t)length : room - 1;
 }
 
 void log_figures(const char *format, ...)
@@ -217,7 +217,9 @@ void log_flush(void)
     clock_gettime(CLOCK_MONOTONIC, &until);
     until.tv_sec += FLUSH_S;
     (void)pthread_mutex_lock(&ring.lock);
-    while (ring.count && (ring.is_writing ? pthread_cond_timedwait(&ring.changed, &ring.lock, &until) != ETIMEDOUT : write_first(1000 * FLUSH_S)))
+    while (ring.count &&
+           (ring.is_writing ? pthread_cond_timedwait(&ring.changed, &ring.lock, &until) != ETIMEDOUT
+                            : write_first(1000 * FLUSH_S)))
         continue; /* (the thread that writes may get no processor) */
     (void)pthread_mutex_unlock(&ring.lock);
 }

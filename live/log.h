@@ -1,17 +1,18 @@
-/* Lines for the standard output and the standard error. A thread of its own writes them: a reader who reads no more, a full disk or a closed
-   descriptor holds nobody up. Lines wait in bounded memory; where that is full, or one cannot be written, it is dropped and counted. */
+/* Lines for the standard output and the standard error. A thread of its own writes them: a reader who reads no
+   more, a full disk or a closed descriptor holds no one up. Lines wait in bounded memory; where that is full, or
+   one cannot be written, it is dropped and counted. */
 #ifndef LOG_H
 #define LOG_H
 
 #include <stdbool.h>
 #include <stdint.h>
 
-/* Starts the thread. Descriptors 0, 1 and 2 that are closed become /dev/null, so that no other file gets their number. Until then lines are
-   written at once. */
+/* Starts the thread. Descriptors 0, 1 and 2 that are closed become /dev/null, so that no other file gets their
+   number. Until then lines are written at once. */
 void log_open(void);
 
-/* Adds to the line of figures of this thread; one that ends with a line feed goes to the standard output. Those that begin with
-   `progress` take no more than half of the memory. */
+/* Adds to the line of figures of this thread; one that ends with a line feed goes to the standard output. Those
+   that begin with `progress` take no more than half of the memory. */
 void log_figures(const char *format, ...) __attribute__((format(printf, 1, 2)));
 
 /* A line `live: TEXT` for the standard error, of any thread; and one with the time of day in front of the text. */

@@ -1,4 +1,5 @@
-/* A small monitor, for tests: its memory is handed over before the first thread runs, and checked after the last one has stopped. */
+/* A small monitor, for tests: its memory is handed over before the first thread runs, and checked after the last
+   one has stopped. */
 #include "roles.h"
 
 #include <inttypes.h>
@@ -13,7 +14,8 @@
 /* Two ranges, since a monitor may have several. */
 static void hand_over(int handler, int userfault, const struct guest *guest)
 {
-    uint64_t at = (uintptr_t)guest->memory, bytes = (uint64_t)guest->plan.pages * PAGE_BYTES, first = bytes / PAGE_BYTES / 3 * PAGE_BYTES;
+    uint64_t at = (uintptr_t)guest->memory, bytes = (uint64_t)guest->plan.pages * PAGE_BYTES,
+             first = bytes / PAGE_BYTES / 3 * PAGE_BYTES;
     const struct handed_range ranges[] = { { at, first, 0 }, { at + first, bytes - first, first } };
 
     handing_give(handler, userfault, ranges, 2);

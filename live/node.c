@@ -99,7 +99,8 @@ const char *node_fault(uint32_t status, const struct frame *frame)
         : fault == POSTMIG_BAD_FIELD            ? "stream fault BadField"
                                                 : answer_text(status);
 
-    (void)snprintf(text, sizeof text, "a frame of the other side, with the tag 0x%02x: %s", frame->head[1], name); /* it fits */
+    /* it fits */
+    (void)snprintf(text, sizeof text, "a frame of the other side, with the tag 0x%02x: %s", frame->head[1], name);
     return text;
 }
 
@@ -130,12 +131,14 @@ uint32_t node_retry(struct node *node, uint32_t cpu, postmig_effect *effect)
 
 uint32_t node_read(struct node *node, postmig_effect *effect)
 {
-    return node->is_source ? postmig_source_read(&node->handle, effect) : postmig_destination_read(&node->handle, effect);
+    return node->is_source ? postmig_source_read(&node->handle, effect)
+                           : postmig_destination_read(&node->handle, effect);
 }
 
 uint32_t node_next_act(struct node *node, postmig_effect *effect)
 {
-    return node->is_source ? postmig_source_next_act(&node->handle, effect) : postmig_destination_next_act(&node->handle, effect);
+    return node->is_source ? postmig_source_next_act(&node->handle, effect)
+                           : postmig_destination_next_act(&node->handle, effect);
 }
 
 uint32_t node_act(struct node *node, postmig_effect *effect)
@@ -178,7 +181,8 @@ static void sum_sent(const uint8_t *at, size_t length)
 {
     struct frame frame = { .head = at };
 
-    for (; length && postmig_frame_lengths(frame.head, length, &frame.head_bytes, &frame.page_bytes) == POSTMIG_OK; frame.head += frame.head_bytes) {
+    for (; length && postmig_frame_lengths(frame.head, length, &frame.head_bytes, &frame.page_bytes) == POSTMIG_OK;
+         frame.head += frame.head_bytes) {
         node_sum_frame(true, &frame);
         length -= frame.head_bytes;
     }
@@ -219,11 +223,12 @@ void node_drop_frames(struct node *node)
 {
     struct stream nowhere = NO_STREAM;
 
-    (void)node_send_frames(node, &nowhere); /* how many is of no interest */
+    (void)node_send_frames(node, &nowhere); /* the count is not needed */
     stream_free(&nowhere);
 }
 
 bool is_same_effect(const postmig_effect *one, const postmig_effect *other)
 {
-    return one->kind == other->kind && one->addr == other->addr && one->other == other->other && one->count == other->count;
+    return one->kind == other->kind && one->addr == other->addr && one->other == other->other &&
+        one->count == other->count;
 }

@@ -59,7 +59,8 @@ uint32_t node_read(struct node *node, postmig_effect *effect);
 uint32_t node_next_act(struct node *node, postmig_effect *effect);
 uint32_t node_act(struct node *node, postmig_effect *effect);
 
-/* Puts a Page into the stream, or a Zero where `bytes` is NULL; and a Run. What waits in the node goes before them. */
+/* Puts a Page into the stream, or a Zero where `bytes` is NULL; and a Run. What waits in the node goes before
+   them. */
 void node_put_page(struct stream *stream, uint32_t epoch, uint32_t page, const char *bytes);
 void node_put_run(struct stream *stream, uint32_t epoch, uint32_t first, uint32_t count, const char *from);
 

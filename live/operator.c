@@ -30,7 +30,7 @@ static struct {
     int door, signals;
     const struct address *address;
     struct client client[MOST_CLIENTS];
-    uint32_t turn;      /* the place that was taken last from somebody, */
+    uint32_t turn;      /* the place that was taken last from someone, */
     uint32_t heard;     /* and that of the client that was heard last */
     uint64_t next;      /* when those who watch hear again; */
     uint64_t next_look; /* and when an order is looked for again */
@@ -46,7 +46,8 @@ static void watch_signals(void)
 {
     sigset_t set;
 
-    if (sigemptyset(&set) || sigaddset(&set, SIGTERM) || sigaddset(&set, SIGINT) || pthread_sigmask(SIG_BLOCK, &set, NULL))
+    if (sigemptyset(&set) || sigaddset(&set, SIGTERM) || sigaddset(&set, SIGINT) ||
+        pthread_sigmask(SIG_BLOCK, &set, NULL))
         refuse("signals cannot be blocked");
     orders.signals = signalfd(-1, &set, SFD_NONBLOCK | SFD_CLOEXEC);
     if (orders.signals < 0)
@@ -243,7 +244,8 @@ bool operator_abandons(const struct order *order)
 
 const char *operator_ends_held(void)
 {
-    return orders.address ? "it has stopped, and keeps what it has: abandon ends it" : "it has stopped, and keeps what it has: another signal ends it";
+    return orders.address ? "it has stopped, and keeps what it has: abandon ends it"
+                          : "it has stopped, and keeps what it has: another signal ends it";
 }
 
 bool operator_is_watched(void)

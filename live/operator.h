@@ -1,5 +1,5 @@
-/* The word of the operator: SIGTERM and SIGINT, and lines at a control socket. Each line is a WORD or `WORD NUMBER`, and is answered by one line
-   of JSON. Only processes of the same user, and of root, may connect. */
+/* The word of the operator: SIGTERM and SIGINT, and lines at a control socket. Each line is a WORD or `WORD
+   NUMBER`, and is answered by one line of JSON. Only processes of the same user, and of root, may connect. */
 #ifndef OPERATOR_H
 #define OPERATOR_H
 
@@ -32,7 +32,8 @@ struct order {
 #define OPERATOR_FILES (MOST_CLIENTS + 2u)
 #define MOST_JSON 1280u /* bytes of a line, of which a text has less than half */
 
-/* Blocks the signals, in all threads that are started later, and listens there if it has a text. This thread alone hears orders. */
+/* Blocks the signals, in all threads that are started later, and listens there if it has a text. This thread alone
+   hears orders. */
 void operator_open(const struct address *control);
 
 /* What to wait for: OPERATOR_FILES of them. */
@@ -45,15 +46,17 @@ bool operator_next(struct order *order);
 void operator_done(const struct order *order);
 void operator_refuse(const struct order *order, const char *reason);
 
-/* Of a side that does nothing more, and keeps what it has: whether this order ends it, and what would. The word `abandon` does; without a socket a
-   signal does, unless it is the first one. */
+/* Of a side that does nothing more, and keeps what it has: whether this order ends it, and what would. The word
+   `abandon` does; without a socket a signal does, unless it is the first one. */
 bool operator_abandons(const struct order *order);
 const char *operator_ends_held(void);
 
-/* A text as it may be in a string of JSON: marks that would end it are others. Empty for NULL; the next call takes its place. */
+/* A text as it may be in a string of JSON: marks that would end it are others. Empty for NULL; the next call takes
+   its place. */
 const char *operator_text(const char *text);
 
-/* A line of JSON: as the answer to an order, and (operator_tell) to all who watch. One that is not read is dropped. */
+/* A line of JSON: as the answer to an order, and (operator_tell) to all who watch. One that is not read is
+   dropped. */
 void operator_answer(const struct order *order, const char *json);
 bool operator_is_watched(void); /* and a second is over */
 void operator_tell(const char *json);

@@ -30,9 +30,10 @@ struct options {
     bool makes_sums;     /* which the trace ends with */
     struct guest_plan plan;
     struct guest_pace pace;
-    uint32_t buffer;                  /* bytes of a socket's buffers in the kernel */
-    uint32_t patience;                /* seconds without the other side, after which this one stops trying; FOREVER: it never does; USUAL_PATIENCE */
-    uint32_t silence;                 /* seconds without a byte, after which a connection counts as broken */
+    uint32_t buffer;   /* bytes of a socket's buffers in the kernel */
+    uint32_t patience; /* seconds without the other side, after which this one stops trying; FOREVER: it never does;
+                          USUAL_PATIENCE */
+    uint32_t silence;  /* seconds without a byte, after which a connection counts as broken */
     char migration[MOST_OF_NAME + 1]; /* its name */
     struct address control;           /* where the operator has a word; no text: by signals alone */
     uint32_t slices;

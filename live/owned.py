@@ -1,4 +1,4 @@
-"""Programs of somebody's own: those of examples/monitor are built in an empty folder, from the words that liblive has
+"""Programs of someone's own: those of examples/monitor are built in an empty folder, from the words that liblive has
 for a compiler, and take the parts of live one by one. Each case returns what is wrong, or None."""
 
 import os
@@ -63,9 +63,8 @@ class Folder(tempfile.TemporaryDirectory):
             return f"the source's memory has {len(here)} bytes, or none but 0"
         if there == here:
             return None
-        return (
-            f"byte {next((i for i, (one, other) in enumerate(zip(there, here)) if one != other), min(len(there), len(here)))} differs"
-        )
+        differing = (i for i, (one, other) in enumerate(zip(there, here)) if one != other)
+        return f"byte {next(differing, min(len(there), len(here)))} differs"
 
 
     def __enter__(self):

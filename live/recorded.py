@@ -46,7 +46,7 @@ def differs(name, lines, status, kind):
 
 
 def what_is_not_one_memory(program):
-    """In a right history one load at the destination finds 0, or what nobody has stored; or the ticks of the
+    """In a right history one load at the destination finds 0, or what no one has stored; or the ticks of the
     destination are lower than those of the source; or the end is lacking."""
     with tempfile.TemporaryDirectory(prefix="live-") as folder:
         migration, wrong = migrated(program, *BROKEN[0], kept=folder)

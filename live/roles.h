@@ -4,8 +4,8 @@
 
 #include "options.h"
 
-int source_run(const struct options *options);  /* the host that the guest leaves */
-int dest_run(const struct options *options);    /* the host that it moves to; with a monitor, the handler of its memory */
+int source_run(const struct options *options); /* the host that the guest leaves */
+int dest_run(const struct options *options); /* the host that it moves to; with a monitor, the handler of its memory */
 int monitor_run(const struct options *options); /* runs the guest of a handler */
 int bare_run(const struct options *options);    /* what the connection and UFFDIO_COPY take without a node */
 

@@ -102,7 +102,7 @@ def not_cancelled_after_the_switch(program):
     both.at("destination running")
     answers = [both.source.order(word) for word in ("cancel", "end", "status", "push-rate 0")]
     is_right = [answer.get("ok") for answer in answers] == [False, False, None, True] and answers[2]["switched"]
-    return both.finish() or (None if is_right else f"{answers}")
+    return both.migration.finish() or (None if is_right else f"{answers}")  # (it goes as fast as it can already)
 
 
 def a_stopped_side(program):
@@ -114,7 +114,7 @@ def a_stopped_side(program):
         stopped.process.send_signal(signal.SIGSTOP)
         is_noticed = pair.wait_until(lambda side=other: side.status("breaks") >= 3)
         stopped.process.send_signal(signal.SIGCONT)
-        wrong = both.finish() or (None if is_noticed else "nobody notices it")
+        wrong = both.finish() or (None if is_noticed else "no one notices it")
         if wrong:
             return f"{name}: {wrong}"
     return None
@@ -130,7 +130,7 @@ def a_slice_that_comes_late(program):
 
 
 def a_slice_that_is_held(program):
-    """By an answer that nobody expects: the others get all their pages, and the guest runs on with these."""
+    """By an answer that no one expects: the others get all their pages, and the guest runs on with these."""
     if kept.is_sanitized(program):
         return None
     with tempfile.TemporaryDirectory(prefix="live-") as folder:

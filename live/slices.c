@@ -5,6 +5,7 @@
 
 #include "live.h"
 #include "log.h"
+#include "sums.h"
 
 void slices_begin(struct slices *slices, const struct options *options)
 {
@@ -82,8 +83,10 @@ void slices_join(struct slices *slices)
 
 void slice_leave(uint32_t slice)
 {
-    if (slice)
+    if (slice) {
+        sums_end();
         pthread_exit(NULL);
+    }
 }
 
 /* PROGRESS */
@@ -104,8 +107,7 @@ static void add(struct progress *all, const struct progress *one, uint32_t pause
 {
     bool is_paused = all->phase == paused || one->phase == paused;
 
-    all->phase = is_paused ? paused : one->phase < all->phase ? one->phase
-                                                              : all->phase;
+    all->phase = is_paused ? paused : one->phase < all->phase ? one->phase : all->phase;
     all->epoch = greater(all->epoch, one->epoch);
     all->round = greater(all->round, one->round);
     all->is_connected &= one->is_connected;

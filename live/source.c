@@ -17,10 +17,11 @@
 #include "trace.h"
 
 #define MOST_WAIT_MS 100u
-#define URGENT_NS 5000000u         /* after a request another one is likely */
-#define PATIENT_MS 5u              /* between two looks at whether the other slices are released */
-#define MOST_HELD 256u             /* turns in which faults wait, so that pages can be protected */
-#define MOST_OF_TURN_NS 200000000u /* that counts as waited: a longer turn had much to do for the guest, or the process did not run */
+#define URGENT_NS 5000000u /* after a request another one is likely */
+#define PATIENT_MS 5u      /* between two looks at whether the other slices are released */
+#define MOST_HELD 256u     /* turns in which faults wait, so that pages can be protected */
+/* that counts as waited: a longer turn had much to do for the guest, or the process did not run */
+#define MOST_OF_TURN_NS 200000000u
 
 static _Thread_local struct source *keeper;
 
@@ -84,10 +85,11 @@ static bool work(struct source *source)
     return source->state.phase == POSTMIG_SOURCE_STOPPED && postcopy_work(source);
 }
 
-/* Whether somebody waits: here, or there, as far as that is known. */
+/* Whether someone waits: here, or there, as far as that is known. */
 static bool is_urgent(const struct source *source)
 {
-    return source->state.switched ? source->last_turn - source->last_request < URGENT_NS : watch_has_sleeper(&source->watch);
+    return source->state.switched ? source->last_turn - source->last_request < URGENT_NS
+                                  : watch_has_sleeper(&source->watch);
 }
 
 /* Milliseconds until there is something to do by the clock alone. */
@@ -102,7 +104,8 @@ static int time_to_wait(const struct source *source)
 
 static void wait_for_more(const struct source *source)
 {
-    struct pollfd files[3 + OPERATOR_FILES] = { { .fd = source->state.switched ? -1 : source->watch.userfault, .events = POLLIN },
+    struct pollfd files[3 + OPERATOR_FILES] = { { .fd = source->state.switched ? -1 : source->watch.userfault,
+                                                  .events = POLLIN },
                                                 stream_waits(&source->main),
                                                 stream_waits(&source->urgent) };
 
@@ -155,7 +158,8 @@ static void show_progress(struct source *source)
     if (source->slice || !source->options->shows_progress)
         return;
     all = slices_say(source->slices, POSTMIG_SOURCE_PAUSED);
-    log_figures("progress source phase=%s left=%" PRIu64 " sent=%" PRIu64 " faults=%" PRIu64 " waits=%u epoch=%u round=%u breaks=%" PRIu64 "\n",
+    log_figures("progress source phase=%s left=%" PRIu64 " sent=%" PRIu64 " faults=%" PRIu64
+                " waits=%u epoch=%u round=%u breaks=%" PRIu64 "\n",
                 source_phases[all.phase], all.left, all.moved, all.faults, all.waits, all.epoch, all.round, all.breaks);
 }
 
@@ -171,21 +175,25 @@ static uint64_t count_turn(struct source *source)
 
 static bool has_lost_patience(const struct source *source)
 {
-    uint64_t set = source->slices->patience, patience = set != USUAL_PATIENCE ? set : source->slices->is_due ? FOREVER
-                                                                                                             : PATIENT_S;
+    uint64_t set = source->slices->patience,
+             patience = set != USUAL_PATIENCE ? set
+        : source->slices->is_due              ? FOREVER
+                                              : PATIENT_S;
 
     return patience != FOREVER && source->waited > patience * SECOND_NS;
 }
 
-static void tell_phase(struct source *source)
+static void log_phase(struct source *source)
 {
-    if (source->told == source->state.phase)
+    if (source->logged_phase == source->state.phase)
         return;
-    source->told = source->state.phase;
-    log_event("source: %s, epoch %u, %" PRIu64 " pages left", source_phases[source->told], source->state.epoch, source_left(source));
+    source->logged_phase = source->state.phase;
+    log_event("source: %s, epoch %u, %" PRIu64 " pages left", source_phases[source->logged_phase], source->state.epoch,
+              source_left(source));
 }
 
-/* Pages can be protected only while no thread gives memory back. Where each try meets one, faults wait for a while: then the threads do. */
+/* Pages can be protected only while no thread gives memory back. Where each try meets one, faults wait for a while:
+   then the threads do. */
 static void handle_guest(struct source *source)
 {
     if (source->calm)
@@ -215,7 +223,7 @@ static void turn(struct source *source)
         channel_lose(source, "the urgent connection is broken", source->urgent.error);
     trace_bound();
     show_progress(source);
-    tell_phase(source);
+    log_phase(source);
     if (!has_more && source->state.phase != POSTMIG_SOURCE_RELEASED)
         wait_for_more(source);
 }
@@ -252,18 +260,21 @@ static void say_figures(const struct source *source)
 {
     const struct watch *watch = &source->watch;
 
-    log_figures("source start=%" PRIu64 " stop=%" PRIu64 " stopped=%" PRIu64 " sent=%" PRIu64 " released=%" PRIu64, source->figures.start,
-                source->figures.stop, source->figures.stopped, source->figures.sent, source->figures.released);
+    log_figures("source start=%" PRIu64 " stop=%" PRIu64 " stopped=%" PRIu64 " sent=%" PRIu64 " released=%" PRIu64,
+                source->figures.start, source->figures.stop, source->figures.stopped, source->figures.sent,
+                source->figures.released);
     log_figures(" zeros=%" PRIu64 " discards=%" PRIu64, source->figures.zeros, source->figures.discards);
-    log_figures(" rounds=%u owed=%" PRIu64 " pushed=%" PRIu64 " served=%" PRIu64 " pages=%" PRIu64, source->state.rounds, source->figures.owed,
-                source->figures.pushed, source->figures.served, source->state.pages_sent);
-    log_figures(" faults=%" PRIu64 " events=%" PRIu64 " roused=%" PRIu64 " again=%" PRIu64 " needless=%" PRIu64 " cleared=%" PRIu64, watch->faults,
-                watch->events, watch->roused, watch->again, watch->needless, watch->cleared);
-    log_figures(" breaks=%" PRIu64 " lost_dones=%" PRIu64 " epoch=%u busy=%" PRIu64 "\n", source->figures.breaks, source->figures.lost_dones,
-                source->state.epoch, source->figures.busy);
+    log_figures(" rounds=%u owed=%" PRIu64 " pushed=%" PRIu64 " served=%" PRIu64 " pages=%" PRIu64,
+                source->state.rounds, source->figures.owed, source->figures.pushed, source->figures.served,
+                source->state.pages_sent);
+    log_figures(" faults=%" PRIu64 " events=%" PRIu64 " roused=%" PRIu64 " again=%" PRIu64 " needless=%" PRIu64
+                " cleared=%" PRIu64,
+                watch->faults, watch->events, watch->roused, watch->again, watch->needless, watch->cleared);
+    log_figures(" breaks=%" PRIu64 " lost_dones=%" PRIu64 " epoch=%u busy=%" PRIu64 "\n", source->figures.breaks,
+                source->figures.lost_dones, source->state.epoch, source->figures.busy);
 }
 
-/* Nobody watches the memory of this slice any more. */
+/* No one watches the memory of this slice any more. */
 static void leave(struct source *source)
 {
     stream_close(&source->main);
@@ -273,11 +284,12 @@ static void leave(struct source *source)
     (void)close(source->watch.userfault); /* who waits for an event to be read continues */
 }
 
-/* Before the switch the guest runs on here, and nobody watches its memory any more. It ends by the operator's word, or after a given time; then
-   all its memory is checked. */
+/* Before the switch the guest runs on here, and no one watches its memory any more. It ends by the operator's word,
+   or after a given time; then all its memory is checked. */
 static int keep_guest(struct source *source)
 {
-    uint64_t until = source->options->after == FOREVER ? UINT64_MAX : kernel_now() + source->options->after * 1000000ull;
+    uint64_t until =
+        source->options->after == FOREVER ? UINT64_MAX : kernel_now() + source->options->after * 1000000ull;
     uint32_t wrong, page = 0;
 
     log_event("source: the guest runs on here%s", until == UINT64_MAX ? " until the operator ends it" : "");
@@ -327,16 +339,18 @@ static bool wait_after_switch(uint32_t milliseconds)
     return keeper->slices->is_over;
 }
 
-const struct keeping source_before_switch = { keep_before_switch, NULL }, source_after_switch = { keep_after_switch, wait_after_switch };
+const struct keeping source_before_switch = { keep_before_switch, NULL },
+                     source_after_switch = { keep_after_switch, wait_after_switch };
 
-/* The switch was made, and nobody has said that the destination has all. */
+/* The switch was made, and no one has said that the destination has all. */
 static _Noreturn void end_without_done(struct source *sources)
 {
     uint64_t left = 0;
 
     for (uint32_t i = 0; i < sources->slices->count; i++)
         left += sources[i].state.remaining;
-    lose("the guest was switched to the destination, and no Done has come: whether it runs there is not known here, and it does not run here. "
+    lose("the guest was switched to the destination, and no Done has come: whether it runs there is not known here, "
+         "and it does not run here. "
          "%" PRIu64 " pages were not sent since the last break",
          left);
 }
@@ -347,7 +361,8 @@ static void lose_patience(struct source *source)
         source->slices->is_over = true;
     if (tls_last_fault())
         log_event("source: TLS: %s", tls_last_fault());
-    log_event("source: no destination for %" PRIu64 " s: %s", source->waited / SECOND_NS, *source->why ? source->why : "it takes nothing");
+    log_event("source: no destination for %" PRIu64 " s: %s", source->waited / SECOND_NS,
+              *source->why ? source->why : "it takes nothing");
 }
 
 /* A slice: its migration, up to its end. */
@@ -375,6 +390,7 @@ static void run_slice(void *side)
         show_progress(source);
     }
     trace_end();
+    sums_end();
     postmig_free(&source->node.handle);
 }
 

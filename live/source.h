@@ -19,10 +19,11 @@ struct source {
     uint32_t slice; /* which one this is */
     struct node node;
     struct watch watch;
-    postmig_source_state state; /* since the last step that changes the phase or the epoch; its counts may be older than the node's */
+    postmig_source_state state; /* since the last step that changes the phase or the epoch; its counts may be older than
+                                   the node's */
     uint64_t last_turn;         /* ns */
     uint64_t waited;            /* without progress, in ns */
-    uint32_t told;              /* the phase that was written last */
+    uint32_t logged_phase;      /* the phase that was written last */
     bool is_to_switch;          /* it switches now, or has */
     bool is_held;               /* nothing is done any more, though the pages are here alone */
 
@@ -36,10 +37,10 @@ struct source {
     bool has_to_resume;                  /* the channel is lost, and the next epoch has not begun */
     bool is_refused;                     /* what came on this channel is no destination's */
     uint64_t opened, next_try, retry;    /* ns */
-    char why[192];                       /* the cause of the last break, which is written once, until a destination replies */
-    uint32_t silences;                   /* channels in a row on which nothing was heard */
-    uint32_t turns;                      /* with an urgent connection */
-    uint64_t last_request;               /* when one came last, in ns */
+    char why[192];         /* the cause of the last break, which is written once, until a destination replies */
+    uint32_t silences;     /* channels in a row on which nothing was heard */
+    uint32_t turns;        /* with an urgent connection */
+    uint64_t last_request; /* when one came last, in ns */
 
     /* pre-copy */
     uint32_t rounds;                  /* made since pre-copy has begun, or begun again */
@@ -47,7 +48,8 @@ struct source {
     uint64_t sent_before;             /* those sent before it, */
     uint64_t round_begun, round_sent; /* when it has begun, and pages of it that were sent */
     char *run;                        /* bytes of a run of pages that threads may be giving back */
-    uint32_t held_turns, calm;        /* turns in which faults wait: pages could not be protected, and runs that are sent once they could */
+    uint32_t held_turns, calm; /* turns in which faults wait: pages could not be protected, and runs that are sent once
+                                  they could */
 
     /* post-copy */
     bool package_is_sent, end_is_sent;
@@ -81,8 +83,8 @@ char *source_page(const struct source *source, uint32_t page);
 bool source_is_zero(const char *page);
 /* The same after the switch: the page is compared once, since a page of zeros is met in each pass. */
 bool source_has_zeros(struct source *source, uint32_t page);
-/* The bytes of pages before the switch, each of which the node calls present. NULL where one of them is missing: it was given back, and the
-   thread that did so has cleared it late. */
+/* The bytes of pages before the switch, each of which the node calls present. NULL where one of them is missing: it
+   was given back, and the thread that did so has cleared it late. */
 const char *source_bytes(const struct source *source, uint32_t first, uint32_t count);
 /* Puts a Zero, where `bytes` is NULL, or a Page. */
 void source_put_page(struct source *source, struct stream *stream, uint32_t page, const char *bytes);
@@ -91,7 +93,8 @@ void source_put_page(struct source *source, struct stream *stream, uint32_t page
 
 /* Connects, if it is time to. */
 void channel_connect(struct source *source);
-/* Sends and receives, and breaks a channel that is broken, or on which nothing came for too long. The last turn took `took` ns. */
+/* Sends and receives, and breaks a channel that is broken, or on which nothing came for too long. The last turn
+   took `took` ns. */
 void channel_use(struct source *source, uint64_t took);
 /* Nothing that is under way arrives any more. */
 void channel_lose(struct source *source, const char *why, int error);

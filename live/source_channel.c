@@ -11,12 +11,14 @@
 #include "kernel.h"
 #include "log.h"
 
-#define RECEIVED_ENDED 2u         /* of a Recv */
-#define MOST_OF_BACK (8u << 20)   /* bytes of a frame of the destination: a Recv has a number for each run of pages */
+#define RECEIVED_ENDED 2u /* of a Recv */
+/* bytes of a frame of the destination: a Recv has a number for each run of pages */
+#define MOST_OF_BACK (8u << 20)
 #define UNHEARD_TURNS 16u         /* between two looks at the urgent connection */
 #define RETRY_NS 2000000u         /* between two tries to connect: at first, */
 #define MOST_RETRY_NS 1000000000u /* and twice as long each time up to this, */
-#define CALM_BYTES (32u << 10)    /* unless the last channel has carried this number of bytes, or lived for a second */
+/* unless the last channel has carried this number of bytes, or lived for a second */
+#define CALM_BYTES (32u << 10)
 
 /* Who the destination is, for people. */
 static const char *destination_of(const struct source *source)
@@ -30,7 +32,8 @@ static void note_break(struct source *source, const char *why, int error)
     char text[sizeof source->why];
 
     if (error)
-        (void)snprintf(text, sizeof text, "%s: %s (%s)", why, strerrorname_np(error), strerror(error)); /* what does not fit is left out */
+        /* what does not fit is left out */
+        (void)snprintf(text, sizeof text, "%s: %s (%s)", why, strerrorname_np(error), strerror(error));
     else
         (void)snprintf(text, sizeof text, "%s", why);
     if (tls_last_fault() && error == EPROTO)
@@ -97,7 +100,8 @@ static void open_channel(struct source *source)
 {
     static const struct cuts never = NO_CUTS;
     const struct options *options = source->options;
-    const struct cuts *cuts = source->channels < options->cuts[source->slice] ? &options->cut[source->slice][source->channels] : &never;
+    const struct cuts *cuts =
+        source->channels < options->cuts[source->slice] ? &options->cut[source->slice][source->channels] : &never;
 
     if (!open_stream(source, &source->main, MAIN, &cuts->main))
         return;
@@ -142,8 +146,7 @@ void channel_connect(struct source *source)
 
     if (now < source->next_try)
         return;
-    source->retry = !source->retry ? RETRY_NS : 2 * source->retry < MOST_RETRY_NS ? 2 * source->retry
-                                                                                  : MOST_RETRY_NS;
+    source->retry = !source->retry ? RETRY_NS : 2 * source->retry < MOST_RETRY_NS ? 2 * source->retry : MOST_RETRY_NS;
     source->next_try = now + source->retry;
     if (source->has_to_resume)
         node_do(postmig_source_resume(&source->node.handle, &effect));
@@ -175,7 +178,8 @@ static void take_hello(struct source *source)
     if (length < HELLO_BYTES)
         return;
     if (*hello.reason || hello_unlike(&source->own, &hello, reason)) {
-        (void)snprintf(text, sizeof text, "the destination refuses: %s", *hello.reason ? hello.reason : reason); /* it fits */
+        /* it fits */
+        (void)snprintf(text, sizeof text, "the destination refuses: %s", *hello.reason ? hello.reason : reason);
         reject(source, text);
         return;
     }
@@ -199,7 +203,8 @@ static void take_back(struct source *source, size_t length)
 
     node_try(status, postmig_source_back(&source->node.handle, stream_front(&source->main), length, &effect));
     if (status != POSTMIG_OK) {
-        reject(source, node_fault(status, &(struct frame){ .head = stream_front(&source->main), .head_bytes = length }));
+        reject(source,
+               node_fault(status, &(struct frame){ .head = stream_front(&source->main), .head_bytes = length }));
         return;
     }
     node_sum_frame(false, &(struct frame){ .head = stream_front(&source->main), .head_bytes = length });
@@ -254,7 +259,8 @@ static bool hear(struct source *source)
     take_hello(source);
     take_signs(source);
     while (source->is_answered && !source->is_refused &&
-           postmig_frame_lengths(stream_front(&source->main), stream_length(&source->main), &length, &pages) == POSTMIG_OK &&
+           postmig_frame_lengths(stream_front(&source->main), stream_length(&source->main), &length, &pages) ==
+               POSTMIG_OK &&
            stream_length(&source->main) >= length) {
         take_back(source, length);
         take_signs(source);
@@ -281,7 +287,7 @@ static bool exchange(struct source *source)
 
     (void)node_send_frames(&source->node, &source->main); /* how many is of no interest */
     is_sent = stream_send(&source->main);
-    is_whole = hear(source) && is_sent;                   /* (what waits to be sent may be a beat, and what has arrived the Done) */
+    is_whole = hear(source) && is_sent; /* (what waits to be sent may be a beat, and what has arrived the Done) */
     (void)node_send_frames(&source->node, &source->main); /* after a Recv: Discard and Package */
     return is_whole && is_urgent_whole(source);
 }
@@ -303,7 +309,8 @@ void channel_use(struct source *source, uint64_t took)
     if (source->state.phase == POSTMIG_SOURCE_RELEASED)
         return;
     if (!is_whole) {
-        channel_lose(source, "the connection is broken", source->main.error ? source->main.error : source->urgent.error);
+        channel_lose(source, "the connection is broken",
+                     source->main.error ? source->main.error : source->urgent.error);
         return;
     }
     note_progress(source, sent);

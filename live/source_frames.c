@@ -18,9 +18,7 @@ bool source_is_zero(const char *page)
     return !first && !memcmp(page, page + sizeof first, PAGE_BYTES - sizeof first);
 }
 
-enum contents { UNKNOWN,
-                ZEROS,
-                BYTES };
+enum contents { UNKNOWN, ZEROS, BYTES };
 
 bool source_has_zeros(struct source *source, uint32_t page)
 {

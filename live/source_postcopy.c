@@ -21,7 +21,8 @@ static bool push(struct source *source, uint32_t page, bool is_urgent)
     if (status == POSTMIG_REFUSED_NOT_REMAINING)
         return false;
     node_expect(status, "push of a page");
-    source_put_page(source, is_urgent ? &source->urgent : &source->main, page, source_has_zeros(source, page) ? NULL : source_page(source, page));
+    source_put_page(source, is_urgent ? &source->urgent : &source->main, page,
+                    source_has_zeros(source, page) ? NULL : source_page(source, page));
     source->cursor = page + 1;
     source->figures.pushed++;
     return true;
@@ -48,18 +49,19 @@ static void serve(struct source *source)
 /* How many pages may be pushed now without a request. */
 static uint32_t pushes_now(const struct source *source)
 {
-    uint64_t rate = slices_share(source->slices, source->slices->push_rate), pushed = source->figures.pushed - source->figures.served, due;
+    uint64_t rate = slices_share(source->slices, source->slices->push_rate),
+             pushed = source->figures.pushed - source->figures.served, due;
 
     if (!source->package_is_sent)
         return 0;
     if (!rate)
         return PUSHES_AT_A_TIME;
     due = (kernel_now() - source->figures.stopped) / 1000 * rate / 1000000;
-    return due <= pushed ? 0 : due - pushed < PUSHES_AT_A_TIME ? (uint32_t)(due - pushed)
-                                                               : PUSHES_AT_A_TIME;
+    return due <= pushed ? 0 : due - pushed < PUSHES_AT_A_TIME ? (uint32_t)(due - pushed) : PUSHES_AT_A_TIME;
 }
 
-/* The next page that remains, from the cursor on, and again from the first. Once a whole pass has met zeros alone, these are due. */
+/* The next page that remains, from the cursor on, and again from the first. Once a whole pass has met zeros alone,
+   these are due. */
 static bool next_page(struct source *source, uint32_t *page)
 {
     uint32_t status = postmig_source_next_remaining(&source->node.handle, source->cursor, page);
@@ -74,7 +76,8 @@ static bool next_page(struct source *source, uint32_t *page)
     return status == POSTMIG_OK;
 }
 
-/* Pages of zeros come last, so that the others arrive side by side. Returns the number of pages that were pushed, or left for later. */
+/* Pages of zeros come last, so that the others are contiguous. Returns the number of pages that were pushed,
+   or left for later. */
 static uint32_t push_in_background(struct source *source)
 {
     uint32_t count = 0, page, most = pushes_now(source);

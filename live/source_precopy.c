@@ -7,10 +7,12 @@
 #include "kernel.h"
 #include "trace.h"
 
-#define MOST_CALM 32u             /* runs that are sent before the faults are handled, once pages could be protected again */
+/* runs that are sent before the faults are handled, once pages could be protected again */
+#define MOST_CALM 32u
 #define RESERVE_BYTES (64u << 10) /* of a stream, for the frames of the switch, and 8 for each page */
 
-/* The kernel has protected each page of the run, and has it. Those that any thread gives back may be missing since: they were just copied. */
+/* The kernel has protected each page of the run, and has it. Those that any thread gives back may be missing since:
+   they were just copied. */
 static void check_run(const struct source *source, uint32_t first, uint32_t count)
 {
     uint64_t entries[MOST_OF_RUN];
@@ -23,7 +25,8 @@ static void check_run(const struct source *source, uint32_t first, uint32_t coun
             refuse("page 0x%x is not present and protected, after UFFDIO_WRITEPROTECT", first + i);
 }
 
-/* How many pages there are before one of zeros. A page may change until it is protected: this only chooses the frames. */
+/* How many pages there are before one of zeros. A page may change until it is protected: this only chooses the
+   frames. */
 static uint32_t pages_before_zero(const char *bytes, uint32_t count)
 {
     for (uint32_t i = 0; i < count; i++)
@@ -82,7 +85,8 @@ static const char *take_run(struct source *source, uint32_t first, uint32_t coun
     check_run(source, first, count);
     bytes = source_bytes(source, first, count);
     if (!bytes) {
-        (void)kernel_unprotect(source->watch.userfault, at, (size_t)count * PAGE_BYTES); /* until it is tried again */
+        /* until it is tried again */
+        (void)kernel_unprotect(source->watch.userfault, at, (size_t)count * PAGE_BYTES);
         restore_run(source, first, count);
     }
     return bytes;
@@ -145,7 +149,8 @@ static void switch_over(struct source *source)
 {
     postmig_effect effect;
 
-    (void)stream_room(&source->main, RESERVE_BYTES + 8 * (size_t)source->watch.pages); /* while a lack of it loses nothing */
+    /* while a lack of it loses nothing */
+    (void)stream_room(&source->main, RESERVE_BYTES + 8 * (size_t)source->watch.pages);
     source->figures.stop = kernel_now();
     stop_guest(source);
     source->figures.stopped = kernel_now();
@@ -187,8 +192,8 @@ static bool send_rounds(struct source *source)
     return true;
 }
 
-/* Sends a run, begins a round, or switches, once all slices can. A slice whose channel has broken since then sends no more rounds: its pages are
-   owed. */
+/* Sends a run, begins a round, or switches, once all slices can. A slice whose channel has broken since then sends
+   no more rounds: its pages are owed. */
 bool precopy_work(struct source *source)
 {
     bool is_due = source->slices->is_due;
@@ -198,7 +203,8 @@ bool precopy_work(struct source *source)
     if (!is_due && send_rounds(source))
         return true;
     /* (what is still under way would come before the Package: a stop now would be a longer one) */
-    if (!channel_binds(source) || (!is_due && stream_under_way(&source->main)) || !slice_ready(source->slices, source->slice, source->destination))
+    if (!channel_binds(source) || (!is_due && stream_under_way(&source->main)) ||
+        !slice_ready(source->slices, source->slice, source->destination))
         return false;
     switch_over(source);
     return true;

@@ -8,24 +8,27 @@
 #include "log.h"
 #include "operator.h"
 
-static void tell_status(const struct source *source, char *json, size_t room)
+static void write_status(const struct source *source, char *json, size_t room)
 {
     struct progress all = slices_say(source->slices, POSTMIG_SOURCE_PAUSED);
 
-    (void)snprintf(json, room,
-                   "{\"side\":\"source\",\"migration\":\"%s\",\"phase\":\"%s\",\"switched\":%s,\"kept\":%s,\"connected\":%s,\"epoch\":%u,"
-                   "\"round\":%u,\"left\":%" PRIu64 ",\"sent\":%" PRIu64 ",\"faults\":%" PRIu64 ",\"breaks\":%" PRIu64 ","
-                   "\"dropped_lines\":%" PRIu64 ",\"stopped_by\":\"%s\"}",
-                   source->own.migration, source_phases[all.phase], source->slices->switched ? "true" : "false",
-                   source->slices->is_over ? "true" : "false", all.is_connected ? "true" : "false", all.epoch, all.round, all.left, all.moved,
-                   all.faults, all.breaks, log_dropped(), operator_text(source->slices->held)); /* it fits */
+    (void)snprintf(
+        json, room,
+        "{\"side\":\"source\",\"migration\":\"%s\",\"phase\":\"%s\",\"switched\":%s,\"kept\":%s,\"connected\":%s,"
+        "\"epoch\":%u,"
+        "\"round\":%u,\"left\":%" PRIu64 ",\"sent\":%" PRIu64 ",\"faults\":%" PRIu64 ",\"breaks\":%" PRIu64 ","
+        "\"dropped_lines\":%" PRIu64 ",\"stopped_by\":\"%s\"}",
+        source->own.migration, source_phases[all.phase], source->slices->switched ? "true" : "false",
+        source->slices->is_over ? "true" : "false", all.is_connected ? "true" : "false", all.epoch, all.round, all.left,
+        all.moved, all.faults, all.breaks, log_dropped(), operator_text(source->slices->held)); /* it fits */
 }
 
 static void set_limit(struct source *source, const struct order *order)
 {
     struct slices *slices = source->slices;
-    _Atomic uint32_t *limit = order->word == WORD_RATE ? &slices->rate : order->word == WORD_PUSH_RATE ? &slices->push_rate
-                                                                                                       : &slices->patience;
+    _Atomic uint32_t *limit = order->word == WORD_RATE ? &slices->rate
+        : order->word == WORD_PUSH_RATE                ? &slices->push_rate
+                                                       : &slices->patience;
 
     *limit = order->word == WORD_PATIENCE && !order->number ? FOREVER : order->number;
     operator_done(order);
@@ -35,7 +38,8 @@ static const char *reason_to_stay(const struct source *source)
 {
     if (source->slices->held)
         return operator_ends_held();
-    return source->slices->switched ? "the guest is switched, and the source has pages that are nowhere else" : "the migration is under way: cancel it first";
+    return source->slices->switched ? "the guest is switched, and the source has pages that are nowhere else"
+                                    : "the migration is under way: cancel it first";
 }
 
 static void obey(struct source *source, const struct order *order)
@@ -47,7 +51,7 @@ static void obey(struct source *source, const struct order *order)
     if (order->word == WORD_STATUS || order->word == WORD_WATCH) {
         if (!is_kept && !source->is_held)
             source_says(source);
-        tell_status(source, json, sizeof json);
+        write_status(source, json, sizeof json);
         operator_answer(order, json);
     } else if (order->word >= WORD_RATE && order->word <= WORD_PATIENCE) {
         set_limit(source, order);
@@ -76,7 +80,7 @@ void source_obey(struct source *source)
     while (operator_next(&order))
         obey(source, &order);
     if (operator_is_watched()) {
-        tell_status(source, json, sizeof json);
+        write_status(source, json, sizeof json);
         operator_tell(json);
     }
 }

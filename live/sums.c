@@ -19,7 +19,7 @@ struct frame_sum {
 
 static _Thread_local struct {
     uint32_t pages;
-    uint64_t *page; /* of each the last one; 0: it was neither sent nor put */
+    uint64_t *page; /* of each the last one; 0: it was neither sent nor installed */
     struct frame_sum *frame;
     size_t frames, room;
     struct {
@@ -67,6 +67,13 @@ void sums_begin(uint32_t pages)
         refuse("no memory for the sums of %u pages", pages);
 }
 
+void sums_end(void)
+{
+    free(sums.page);
+    free(sums.frame);
+    memset(&sums, 0, sizeof sums);
+}
+
 bool sums_are_made(void)
 {
     return sums.page;
@@ -90,15 +97,21 @@ void sums_place(const char *at, size_t bytes, uint32_t first)
     sums.place[sums.places++].first = first;
 }
 
+static bool are_pages(uint32_t first, size_t count)
+{
+    return first >= LOW_PAGE && count <= sums.pages && first - LOW_PAGE <= sums.pages - count;
+}
+
 void sums_sent(uint32_t page, const void *bytes, size_t pages)
 {
     static const char zeros[PAGE_BYTES];
 
-    for (size_t i = 0; sums.page && i < pages && page - LOW_PAGE + i < sums.pages; i++)
+    require(!sums.page || are_pages(page, pages));
+    for (size_t i = 0; sums.page && i < pages; i++)
         sums.page[page - LOW_PAGE + i] = sum_of(bytes ? (const char *)bytes + i * PAGE_BYTES : zeros, PAGE_BYTES);
 }
 
-void sums_put(const char *at, const void *bytes, size_t pages)
+void sums_installed(const char *at, const void *bytes, size_t pages)
 {
     for (uint32_t i = 0; i < sums.places; i++)
         if (at >= sums.place[i].at && at < sums.place[i].at + sums.place[i].bytes)
@@ -107,6 +120,7 @@ void sums_put(const char *at, const void *bytes, size_t pages)
 
 void sums_forget(uint32_t page, uint32_t pages)
 {
+    require(!sums.page || are_pages(page, pages));
     for (uint32_t i = 0; sums.page && i < pages; i++)
         sums.page[page - LOW_PAGE + i] = 0;
 }
@@ -130,11 +144,13 @@ void sums_frame(bool is_sent, uint32_t epoch, const uint8_t *bytes, size_t lengt
 bool sums_write(FILE *file)
 {
     for (size_t i = 0; i < sums.frames; i++)
-        if (fprintf(file, "# sum %s %" PRIu32 " %016" PRIx64 "\n", sums.frame[i].is_sent ? "sent" : "taken", sums.frame[i].epoch,
-                    sums.frame[i].sum) < 0)
+        if (fprintf(file, "# sum %s %" PRIu32 " %016" PRIx64 "\n", sums.frame[i].is_sent ? "sent" : "taken",
+                    sums.frame[i].epoch, sums.frame[i].sum) < 0)
             return false;
     for (uint32_t i = 0; sums.page && i < sums.pages; i++)
-        if (sums.page[i] && fprintf(file, "# sum page 0x%" PRIx64 " %016" PRIx64 "\n", (uint64_t)(LOW_PAGE + i) * PAGE_BYTES, sums.page[i]) < 0)
+        if (sums.page[i] &&
+            fprintf(file, "# sum page 0x%" PRIx64 " %016" PRIx64 "\n", (uint64_t)(LOW_PAGE + i) * PAGE_BYTES,
+                    sums.page[i]) < 0)
             return false;
     return true;
 }

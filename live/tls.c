@@ -14,8 +14,8 @@
 #include <string.h>
 #include <sys/stat.h>
 
-/* One version of the protocol, and the key with a fresh exchange of Diffie and Hellman: who learns the key later cannot read what was sent.
-   A pre-shared key goes with suites of SHA-256 alone; of these AES is the fast one. */
+/* One version of the protocol, and the key with a fresh exchange of Diffie and Hellman: who learns the key later
+   cannot read what was sent. A pre-shared key goes with suites of SHA-256 alone; of these AES is the fast one. */
 #define PRIORITY "NORMAL:-VERS-ALL:+VERS-TLS1.3:-KX-ALL:+ECDHE-PSK:-CIPHER-ALL:+AES-128-GCM:+CHACHA20-POLY1305"
 #define MOST_HANDSHAKE 16384u /* bytes of a message of a stranger */
 #define MOST_LINE 1024u
@@ -61,7 +61,8 @@ static void expect(int result, const char *what)
 
 static unsigned digit_of(char letter)
 {
-    return isdigit((unsigned char)letter) ? (unsigned)(letter - '0') : (unsigned)(tolower((unsigned char)letter) - 'a') + 10;
+    return isdigit((unsigned char)letter) ? (unsigned)(letter - '0')
+                                          : (unsigned)(tolower((unsigned char)letter) - 'a') + 10;
 }
 
 /* An even number of hexadecimal digits up to the end of the line. */
@@ -87,7 +88,7 @@ static bool read_line(char *line)
     return read_hex(colon + 1);
 }
 
-/* Of a user whom somebody names at the door. */
+/* Of a user whom someone names at the door. */
 static int find_key(gnutls_session_t session, const char *user, gnutls_datum_t *found)
 {
     (void)session; /* all have the same key */
@@ -125,7 +126,8 @@ void tls_read_key(const char *file)
     if (status.st_mode & (S_IRWXG | S_IRWXO))
         refuse("--psk %s: others may read the key: chmod 600 %s", file, file);
     if (!fgets(line, sizeof line, lines) || !read_line(line))
-        refuse("--psk %s: its first line is to be USER:HEXKEY, with a key of %u to %u bytes, as psktool writes it", file, LEAST_KEY, MOST_KEY);
+        refuse("--psk %s: its first line is to be USER:HEXKEY, with a key of %u to %u bytes, as psktool writes it",
+               file, LEAST_KEY, MOST_KEY);
     (void)fclose(lines); /* it was only read */
     gnutls_memset(line, 0, sizeof line);
     make_credentials();
@@ -137,10 +139,12 @@ void tls_read_key(const char *file)
 /* A session of which only the memory is there. */
 static bool set_up(struct tls *tls, int file, enum tls_side side)
 {
-    const unsigned flags = GNUTLS_NONBLOCK | GNUTLS_NO_SIGNAL | GNUTLS_NO_TICKETS | (side == TLS_LISTENS ? GNUTLS_SERVER : GNUTLS_CLIENT);
+    const unsigned flags =
+        GNUTLS_NONBLOCK | GNUTLS_NO_SIGNAL | GNUTLS_NO_TICKETS | (side == TLS_LISTENS ? GNUTLS_SERVER : GNUTLS_CLIENT);
 
     if (gnutls_init(&tls->session, flags) < 0 || gnutls_priority_set(tls->session, key.priority) < 0 ||
-        gnutls_credentials_set(tls->session, GNUTLS_CRD_PSK, side == TLS_LISTENS ? (void *)key.of_listener : (void *)key.of_client) < 0)
+        gnutls_credentials_set(tls->session, GNUTLS_CRD_PSK,
+                               side == TLS_LISTENS ? (void *)key.of_listener : (void *)key.of_client) < 0)
         return false;
     gnutls_handshake_set_max_packet_length(tls->session, MOST_HANDSHAKE);
     gnutls_handshake_set_timeout(tls->session, 0); /* the caller has its own */
@@ -199,7 +203,8 @@ static bool shake_hands(struct tls *tls)
         return true;
     }
     if (gnutls_error_is_fatal(result))
-        (void)gnutls_alert_send_appropriate(tls->session, result); /* who does not hear it sees the connection end */
+        /* who does not hear it sees the connection end */
+        (void)gnutls_alert_send_appropriate(tls->session, result);
     (void)fail(result);
     return false;
 }
@@ -210,7 +215,8 @@ ssize_t tls_send(struct tls *tls, const void *bytes, size_t length)
 
     if (!shake_hands(tls))
         return -1;
-    result = tls->is_interrupted ? gnutls_record_send(tls->session, NULL, 0) : gnutls_record_send(tls->session, bytes, length);
+    result = tls->is_interrupted ? gnutls_record_send(tls->session, NULL, 0)
+                                 : gnutls_record_send(tls->session, bytes, length);
     tls->is_interrupted = result == GNUTLS_E_AGAIN || result == GNUTLS_E_INTERRUPTED;
     return result >= 0 ? result : fail((int)result);
 }

@@ -1,4 +1,5 @@
-/* The steps that this process's nodes make, line by line, in a file. A node words its lines; this file only takes them. */
+/* The steps that this process's nodes make, line by line, in a file. A node words its lines; this file only takes
+   them. */
 #include "trace.h"
 
 #include <errno.h>
@@ -154,7 +155,8 @@ static bool write_line(void)
     char line[LINE_BYTES + 1];
     size_t length = 0;
 
-    node_expect(postmig_node_trace_take(&trace.node->handle, (uint8_t *)line, LINE_BYTES, &length), "postmig_node_trace_take");
+    node_expect(postmig_node_trace_take(&trace.node->handle, (uint8_t *)line, LINE_BYTES, &length),
+                "postmig_node_trace_take");
     line[length] = 0;
     if (fwrite(line, 1, length, file.at) != length || !write_epoch(line)) {
         give_up(errno);
@@ -212,5 +214,6 @@ void trace_end(void)
     free(trace.epochs);
     trace.epochs = NULL;
     if (is_whole)
-        log_figures("trace lines=%" PRIu64 " sooner=%" PRIu64 " took=%" PRIu64 "\n", trace.lines, sooner, kernel_thread_time() - before);
+        log_figures("trace lines=%" PRIu64 " sooner=%" PRIu64 " took=%" PRIu64 "\n", trace.lines, sooner,
+                    kernel_thread_time() - before);
 }

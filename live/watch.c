@@ -48,9 +48,18 @@ void watch_keep_times(struct watch *watch)
         refuse("no memory for the times of requests");
 }
 
+/* When a page of the source was asked for. */
+static uint64_t *time_of(struct watch *watch, uint64_t origin)
+{
+    uint64_t page = origin / PAGE_BYTES - LOW_PAGE;
+
+    require(watch->asked_at && page < watch->pages);
+    return &watch->asked_at[page];
+}
+
 uint64_t watch_asked_at(struct watch *watch, uint64_t origin)
 {
-    uint64_t *asked = &watch->asked_at[origin / PAGE_BYTES - LOW_PAGE], then;
+    uint64_t *asked = time_of(watch, origin), then;
 
     if (!watch->unanswered)
         return 0; /* (the entry is far from all that is in the caches) */
@@ -73,7 +82,7 @@ static uint64_t waited_since(const struct watch *watch, uint64_t address)
 
 static void note_request(struct watch *watch, uint64_t address, uint64_t origin)
 {
-    uint64_t *asked = &watch->asked_at[origin / PAGE_BYTES - LOW_PAGE];
+    uint64_t *asked = time_of(watch, origin);
 
     if (*asked)
         return; /* another thread has asked for it */
@@ -108,14 +117,18 @@ static uint64_t address_of(const struct watch *watch, uint64_t at)
 /* Of handed memory, what is known of the copy of the page at an address of the node. */
 static enum kept kept_at(const struct watch *watch, uint64_t address)
 {
-    return watch->handed ? (enum kept)watch->handed->kept[address / PAGE_BYTES - LOW_PAGE] : NOT_KEPT;
+    uint64_t page = address / PAGE_BYTES - LOW_PAGE;
+
+    require(page < watch->pages);
+    return watch->handed ? (enum kept)watch->handed->kept[page] : NOT_KEPT;
 }
 
 void watch_unexpected(int error, const char *call, uint64_t address)
 {
     if (error == ESRCH)
         lose("the process of the guest has ended");
-    refuse_errno(error, "%s of page 0x%llx: the node expects another answer", call, (unsigned long long)(address / PAGE_BYTES));
+    refuse_errno(error, "%s of page 0x%llx: the node expects another answer", call,
+                 (unsigned long long)(address / PAGE_BYTES));
 }
 
 void watch_add(struct watch *all, const struct watch *one)
@@ -182,15 +195,15 @@ void watch_wake(struct watch *watch, uint64_t address)
     watch->is_behind |= watch->lates > 0; /* a place may be free */
 }
 
-/* Wakes who waits for a page that the node calls present. The kernel is asked whether it is: a page of which the REMOVE was read may have
-   been cleared since. */
+/* Wakes who waits for a page that the node calls present. The kernel is asked whether it is: a page of which the
+   REMOVE was read may have been cleared since. */
 static int wake_present(struct watch *watch, uint64_t address)
 {
     char *at = watch_page(watch, address);
     int error;
 
     if (kept_at(watch, address) == KEPT)
-        return handed_put(watch->handed, address / PAGE_BYTES - LOW_PAGE);
+        return handed_install(watch->handed, address / PAGE_BYTES - LOW_PAGE);
     error = kernel_zero(watch->userfault, at);
     if (!error)
         watch->cleared++;
@@ -199,7 +212,8 @@ static int wake_present(struct watch *watch, uint64_t address)
 
 /* PLACES */
 
-/* Places that are free. Where there are more threads than places one of these stays free: for events, and for the threads that run. */
+/* Places that are free. Where there are more threads than places one of these stays free: for events, and for the
+   threads that run. */
 static uint32_t free_places(const struct watch *watch)
 {
     uint32_t count = 0;
@@ -251,8 +265,8 @@ static uint32_t idle_processor(const struct watch *watch)
 
 /* FAULTS */
 
-/* A page that one thread gives back while another uses it: from the read of the event until the first one continues the kernel still has what
-   was there, and its faults are those of that. */
+/* A page that one thread gives back while another uses it: from the read of the event until the first one continues
+   the kernel still has what was there, and its faults are those of that. */
 static bool is_shared(const struct watch *watch, uint64_t address)
 {
     return watch_shares(watch, (uint32_t)(address / PAGE_BYTES), 1);
@@ -276,13 +290,13 @@ static void read_fault(struct watch *watch, struct place *place, uint64_t addres
     node_do(node_read(watch->node, &effect));
     if (effect.kind != POSTMIG_DID_READ_FAULT || effect.addr != address ||
         (effect.number != is_protection && !is_shared(watch, address)))
-        refuse("page 0x%llx: the kernel reports a fault of a %s page, and the node does not", (unsigned long long)(address / PAGE_BYTES),
-               is_protection ? "protected" : "missing");
+        refuse("page 0x%llx: the kernel reports a fault of a %s page, and the node does not",
+               (unsigned long long)(address / PAGE_BYTES), is_protection ? "protected" : "missing");
     place->asleep = address;
 }
 
-/* At the source a page that was cleared late is zeros now, and the copy that was sent of it is not: for the node a store has changed it. Its
-   thread sleeps until that is done. */
+/* At the source a page that was cleared late is zeros now, and the copy that was sent of it is not: for the node a
+   store has changed it. Its thread sleeps until that is done. */
 static void take_cleared(struct watch *watch, struct place *place, uint64_t address)
 {
     postmig_command store = { .kind = POSTMIG_STORE, .width = 8, .addr = address };
@@ -304,13 +318,14 @@ static void take_cleared(struct watch *watch, struct place *place, uint64_t addr
     forget_late(watch, address, address + PAGE_BYTES);
 }
 
-/* A fault that the node does not have: by its table the page is there. With a REMOVE of it that was read too the kernel may have cleared it
-   by now, and a page that were put would be there when the node takes the REMOVE. */
+/* A fault that the node does not have: by its table the page is there. With a REMOVE of it that was read too the
+   kernel may have cleared it by now, and a page that were installed would be there when the node takes the REMOVE. */
 static void take_needless_fault(struct watch *watch, struct place *place, uint64_t address, bool is_removed)
 {
     int error;
 
-    watch->needless += kept_at(watch, address) == NOT_KEPT && place->woken != address; /* (two threads may wait for one copy) */
+    /* (two threads may wait for one copy) */
+    watch->needless += kept_at(watch, address) == NOT_KEPT && place->woken != address;
     place->woken = 0;
     if (watch->node->is_source && is_shared(watch, address) && !is_removed) {
         take_cleared(watch, place, address);
@@ -343,7 +358,9 @@ static void take_fault(struct watch *watch, const struct uffd_msg *message, cons
 {
     uint64_t address = address_of(watch, message->arg.pagefault.address), flags = message->arg.pagefault.flags;
     struct place *place = place_of(watch, message, address);
-    postmig_command command = { .kind = flags & UFFD_PAGEFAULT_FLAG_WRITE ? POSTMIG_STORE : POSTMIG_LOAD, .width = 8, .addr = address };
+    postmig_command command = { .kind = flags & UFFD_PAGEFAULT_FLAG_WRITE ? POSTMIG_STORE : POSTMIG_LOAD,
+                                .width = 8,
+                                .addr = address };
     postmig_effect effect;
 
     if (!place) {
@@ -353,8 +370,8 @@ static void take_fault(struct watch *watch, const struct uffd_msg *message, cons
     if (place->asleep == address) /* it was woken for another reason, and waits again */
         return;
     if (place->asleep)
-        refuse("thread %u waits for page 0x%llx, and faults at page 0x%llx", place->thread, (unsigned long long)(place->asleep / PAGE_BYTES),
-               (unsigned long long)(address / PAGE_BYTES));
+        refuse("thread %u waits for page 0x%llx, and faults at page 0x%llx", place->thread,
+               (unsigned long long)(place->asleep / PAGE_BYTES), (unsigned long long)(address / PAGE_BYTES));
     node_do(node_issue(watch->node, (uint32_t)(place - watch->place), &command, &effect));
     if (effect.kind == POSTMIG_DID_SLEEP)
         read_fault(watch, place, address, flags & UFFD_PAGEFAULT_FLAG_WP);
@@ -387,8 +404,8 @@ static void wake_page(struct watch *watch, uint64_t address)
         watch_unexpected(error, "UFFDIO_WAKE", address);
 }
 
-/* At the node the event wakes all who wait for a page of the range; in the kernel it wakes nobody. Each makes its access again, and sleeps
-   again: what the node says of the page now is then done for it. */
+/* At the node the event wakes all who wait for a page of the range; in the kernel it wakes no one. Each makes its
+   access again, and sleeps again: what the node says of the page now is then done for it. */
 static void wake_range(struct watch *watch, uint64_t start, uint64_t end)
 {
     for (uint32_t i = 0; i < watch->places; i++) {
@@ -401,7 +418,8 @@ static void wake_range(struct watch *watch, uint64_t start, uint64_t end)
         wake_page(watch, address);
         node_do(node_retry(watch->node, i, &effect));
         if (effect.kind != POSTMIG_DID_SLEEP)
-            refuse("a processor does not sleep on page 0x%llx, which was given back", (unsigned long long)(address / PAGE_BYTES));
+            refuse("a processor does not sleep on page 0x%llx, which was given back",
+                   (unsigned long long)(address / PAGE_BYTES));
         read_fault(watch, place, address, false);
         place->woken = address;
         watch->roused++;
@@ -414,7 +432,8 @@ static void wake_range(struct watch *watch, uint64_t start, uint64_t end)
 
 static void take_remove(struct watch *watch, const struct uffd_msg *message)
 {
-    uint64_t start = address_of(watch, message->arg.remove.start), end = start + message->arg.remove.end - message->arg.remove.start;
+    uint64_t start = address_of(watch, message->arg.remove.start),
+             end = start + message->arg.remove.end - message->arg.remove.start;
     postmig_command command = { .kind = POSTMIG_DONTNEED, .addr = start, .length = end - start };
     postmig_effect effect;
 
@@ -422,7 +441,8 @@ static void take_remove(struct watch *watch, const struct uffd_msg *message)
     if (effect.kind != POSTMIG_DID_ENTER_CALL || effect.count != 1)
         refuse("page 0x%llx: the kernel has an event, and the node has none", (unsigned long long)(start / PAGE_BYTES));
     node_do(node_read(watch->node, &effect));
-    if (effect.kind != POSTMIG_DID_READ_LAST || effect.number != UFFD_EVENT_REMOVE || effect.addr != start || effect.other != end)
+    if (effect.kind != POSTMIG_DID_READ_LAST || effect.number != UFFD_EVENT_REMOVE || effect.addr != start ||
+        effect.other != end)
         refuse("page 0x%llx: the node has another event than the kernel", (unsigned long long)(start / PAGE_BYTES));
     if (watch->handed)
         handed_forget(watch->handed, start / PAGE_BYTES - LOW_PAGE, (end - start) / PAGE_BYTES);
@@ -546,11 +566,16 @@ void watch_handle(struct watch *watch)
         watch->is_behind = handle_some(watch);
 }
 
-/* It is registered before the kernel is asked what is present: afterwards pages become present by the node alone. */
+/* It is registered before the kernel is asked what is present: afterwards pages become present by the node
+   alone. */
 void watch_enter_memory(struct watch *watch)
 {
     const uint64_t low = (uint64_t)LOW_PAGE * PAGE_BYTES, pages = watch->pages;
-    postmig_command map = { .kind = POSTMIG_MMAP, .length = pages * PAGE_BYTES, .prot = POSTMIG_PROT_READ_WRITE, .place = POSTMIG_FIXED, .target = low };
+    postmig_command map = { .kind = POSTMIG_MMAP,
+                            .length = pages * PAGE_BYTES,
+                            .prot = POSTMIG_PROT_READ_WRITE,
+                            .place = POSTMIG_FIXED,
+                            .target = low };
     uint64_t *entries = calloc(pages, sizeof *entries);
     postmig_effect effect;
 
@@ -596,12 +621,12 @@ void watch_again(struct watch *watch)
     watch_read(watch);
 }
 
-bool watch_put_kept(struct watch *watch, uint32_t most)
+bool watch_install_kept(struct watch *watch, uint32_t most)
 {
     uint64_t page;
 
     for (; most && handed_next(watch->handed, &page); most--) {
-        int error = handed_put(watch->handed, page);
+        int error = handed_install(watch->handed, page);
 
         if (error == EAGAIN) {
             watch_again(watch);

@@ -1,4 +1,5 @@
-/* A slice of the guest's memory under a userfaultfd, and the node that decides what its faults and events lead to. */
+/* A slice of the guest's memory under a userfaultfd, and the node that decides what its faults and events lead
+   to. */
 #ifndef WATCH_H
 #define WATCH_H
 
@@ -11,7 +12,7 @@
 /* A processor of the node: a thread has it while it waits for a page. */
 struct place {
     uint64_t asleep; /* the address of that page, as the node has it; 0: the place is free */
-    uint64_t woken;  /* the page on which an event has woken the thread, whose own fault of it may still come; 0: none */
+    uint64_t woken; /* the page on which an event has woken the thread, whose own fault of it may still come; 0: none */
     uint32_t thread; /* who had it last, where that is known */
 };
 
@@ -35,7 +36,8 @@ struct watch {
     uint64_t needless;       /* faults of pages that were there by the time they were read */
     uint64_t cleared;        /* pages that the node calls present, and the kernel did not have */
     uint64_t requests;
-    uint64_t *asked_at;  /* since when somebody waits for each page of the source that was asked for, or 0; NULL: that is not kept; */
+    uint64_t *asked_at;  /* since when someone waits for each page of the source that was asked for, or 0; NULL: that is
+                            not kept; */
     uint64_t unanswered; /* and how many of these are not 0 */
 };
 
@@ -50,44 +52,48 @@ size_t watch_bytes(const struct watch *watch);
 /* Whether one of these pages of the node may be given back by one thread while another uses it. */
 bool watch_shares(const struct watch *watch, uint32_t first, uint32_t count);
 
-/* From now on the time of each wait is kept; and since when somebody waits for the page that is at this address at the source, or 0. That is
-   forgotten then. */
+/* From now on the time of each wait is kept; and since when someone waits for the page that is at this address at
+   the source, or 0. That is forgotten then. */
 void watch_keep_times(struct watch *watch);
 uint64_t watch_asked_at(struct watch *watch, uint64_t origin);
 
-/* The calling thread, which handles faults, runs before the guest's if that is wanted and allowed. How it runs is said. */
+/* The calling thread, which handles faults, runs before the guest's if that is wanted and allowed. How it runs is
+   said. */
 void watch_go_first(const char *side, bool is_wanted);
 
 /* The guest's page at an address of the node, where the two number them differently. */
 char *watch_page(const struct watch *watch, uint64_t address);
 
-/* At the source, before its start: all memory is registered, and the node is issued the mmap, and a store to each page that is present. */
+/* At the source, before its start: all memory is registered, and the node is issued the mmap, and a store to each
+   page that is present. */
 void watch_enter_memory(struct watch *watch);
 
 /* After the Package: the processors that waited at the source make their accesses again. */
 void watch_take_over(struct watch *watch);
 
-/* Reads messages, and does what the node says of each. Where threads fault faster than that is done, some are left (is_behind). */
+/* Reads messages, and does what the node says of each. Where threads fault faster than that is done, some are left
+   (is_behind). */
 void watch_handle(struct watch *watch);
 
 /* The same until nothing is left. The threads have stopped. */
 void watch_finish(struct watch *watch);
 
-/* Reads them, and leaves faults for later: the threads that gave memory back finish their calls, and those that wait begin none. */
+/* Reads them, and leaves faults for later: the threads that gave memory back finish their calls, and those that
+   wait begin none. */
 void watch_read(struct watch *watch);
 
-/* A page has been put at this address of the node: the threads that wait for it continue. */
+/* A page was installed at this address of the node: the threads that wait for it continue. */
 void watch_wake(struct watch *watch, uint64_t address);
 
 /* These pages of the node were woken beside it: faults of them that wait for a place are none any more. */
 void watch_forget(struct watch *watch, uint32_t first, uint32_t count);
 
-/* The kernel has returned EAGAIN: an event is unread, or the thread that made it has not finished its call. All messages are read, as by
-   watch_read. */
+/* The kernel has returned EAGAIN: an event is unread, or the thread that made it has not finished its call. All
+   messages are read, as by watch_read. */
 void watch_again(struct watch *watch);
 
-/* Puts copies that are kept of pages of handed memory, at most `most`. Returns whether there are more. */
-bool watch_put_kept(struct watch *watch, uint32_t most);
+/* Installs copies that are kept, of pages of handed memory, at most `most`. Returns whether there are more. */
+bool watch_install_kept(struct watch *watch, uint32_t most);
 
 /* Adds the figures of another slice to these. */
 void watch_add(struct watch *all, const struct watch *one);

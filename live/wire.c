@@ -21,8 +21,9 @@
 #define MOST_RECEIVED (128u << 10) /* by one call, so that faults are read in between */
 #define LEAST_SEGMENT 1024u
 #define MOST_SEGMENT 16384u
-#define MOST_BACKLOG (128 << 10) /* bytes that the kernel takes before it can send them: a page that is asked for may wait after these */
-#define DEAD_AFTER_MS 5000       /* a peer that acknowledges nothing for so long is gone */
+/* bytes that the kernel takes before it can send them: a page that is asked for may wait after these */
+#define MOST_BACKLOG (128 << 10)
+#define DEAD_AFTER_MS 5000 /* a peer that acknowledges nothing for so long is gone */
 
 /* ADDRESSES */
 
@@ -66,7 +67,8 @@ void address_read(struct address *address, const char *text)
         read_unix(address, text + 5);
         return;
     }
-    if (sscanf(text, "[%63[^]]]:%5u%1s", host, &port, rest) != 2 && sscanf(text, "%63[^:]:%5u%1s", host, &port, rest) != 2)
+    if (sscanf(text, "[%63[^]]]:%5u%1s", host, &port, rest) != 2 &&
+        sscanf(text, "%63[^:]:%5u%1s", host, &port, rest) != 2)
         port = UINT32_MAX;
     if (port > UINT16_MAX)
         refuse("%s: an address is HOST:PORT, [HOST]:PORT or unix:PATH", text);
@@ -96,18 +98,19 @@ static bool set_option(int file, int level, int name, int value)
     return !setsockopt(file, level, name, &value, sizeof value);
 }
 
-/* A window of less than a segment stalls, and a segment of loopback has 64 KiB: small buffers need small segments. */
+/* A window of less than a segment stalls, and a segment of loopback has 64 KiB: small buffers need small
+   segments. */
 static int segment_of(uint32_t buffer)
 {
     uint32_t part = buffer / 4;
 
-    return (int)(part < LEAST_SEGMENT ? LEAST_SEGMENT : part > MOST_SEGMENT ? MOST_SEGMENT
-                                                                            : part);
+    return (int)(part < LEAST_SEGMENT ? LEAST_SEGMENT : part > MOST_SEGMENT ? MOST_SEGMENT : part);
 }
 
 static bool set_tcp_options(int file)
 {
-    return set_option(file, IPPROTO_TCP, TCP_NODELAY, 1) && set_option(file, IPPROTO_TCP, TCP_NOTSENT_LOWAT, MOST_BACKLOG) &&
+    return set_option(file, IPPROTO_TCP, TCP_NODELAY, 1) &&
+        set_option(file, IPPROTO_TCP, TCP_NOTSENT_LOWAT, MOST_BACKLOG) &&
         set_option(file, IPPROTO_TCP, TCP_USER_TIMEOUT, DEAD_AFTER_MS) &&
         set_option(file, SOL_SOCKET, SO_KEEPALIVE, 1) && set_option(file, IPPROTO_TCP, TCP_KEEPIDLE, 2) &&
         set_option(file, IPPROTO_TCP, TCP_KEEPINTVL, 1) && set_option(file, IPPROTO_TCP, TCP_KEEPCNT, 3);
@@ -120,9 +123,11 @@ bool socket_set_up(int file, uint32_t buffer)
 
     if (getsockopt(file, SOL_SOCKET, SO_DOMAIN, &family, &length))
         return false;
-    if (family != AF_UNIX && (!set_tcp_options(file) || (buffer && !set_option(file, IPPROTO_TCP, TCP_MAXSEG, segment_of(buffer)))))
+    if (family != AF_UNIX &&
+        (!set_tcp_options(file) || (buffer && !set_option(file, IPPROTO_TCP, TCP_MAXSEG, segment_of(buffer)))))
         return false;
-    return !buffer || (set_option(file, SOL_SOCKET, SO_SNDBUF, (int)buffer) && set_option(file, SOL_SOCKET, SO_RCVBUF, (int)buffer));
+    return !buffer ||
+        (set_option(file, SOL_SOCKET, SO_SNDBUF, (int)buffer) && set_option(file, SOL_SOCKET, SO_RCVBUF, (int)buffer));
 }
 
 int wire_connect(const struct address *address, uint32_t buffer)
@@ -131,7 +136,8 @@ int wire_connect(const struct address *address, uint32_t buffer)
 
     if (file < 0)
         return -1;
-    if (socket_set_up(file, buffer) && (!connect(file, (const struct sockaddr *)&address->name, address->length) || errno == EINPROGRESS))
+    if (socket_set_up(file, buffer) &&
+        (!connect(file, (const struct sockaddr *)&address->name, address->length) || errno == EINPROGRESS))
         return file;
     error = errno;
     (void)close(file); /* nothing was written */
@@ -170,6 +176,7 @@ static uint8_t *bytes_room(struct bytes *bytes, size_t length)
 
 static void bytes_drop(struct bytes *bytes, size_t length)
 {
+    require(length <= bytes->end - bytes->begin);
     bytes->begin += length;
     if (bytes->begin == bytes->end)
         bytes->begin = bytes->end = 0;
@@ -184,7 +191,8 @@ void stream_open(struct stream *stream, int file, struct tls *tls, const struct 
     stream->is_ready = file >= 0;
     stream->cut = *cut;
     stream->error = 0;
-    stream->sent = stream->received = stream->sent_before = stream->received_before = stream->next_beat = stream->silent = 0;
+    stream->sent = stream->received = stream->sent_before = stream->received_before = stream->next_beat =
+        stream->silent = 0;
     stream->beats = false;
     stream->in.begin = stream->in.end = 0;
     stream->out.begin = stream->out.end = 0;
@@ -289,7 +297,8 @@ static size_t shorten(struct iovec *parts, size_t count, uint64_t length)
     return left;
 }
 
-/* Fills the parts with what has arrived by records. As recvmsg(2): what is said after the last byte is said again by the next call. */
+/* Fills the parts with what has arrived by records. As recvmsg(2): what is said after the last byte is said again
+   by the next call. */
 static ssize_t decrypt(struct tls *tls, const struct iovec *parts, size_t count)
 {
     ssize_t all = 0, got = 0;
@@ -312,7 +321,8 @@ bool stream_receive_parts(struct stream *stream, struct iovec *parts, size_t cou
     *got = 0;
     if (!message.msg_iovlen)
         return cut_off(stream);
-    received = stream->tls ? decrypt(stream->tls, parts, message.msg_iovlen) : recvmsg(stream->file, &message, MSG_DONTWAIT);
+    received =
+        stream->tls ? decrypt(stream->tls, parts, message.msg_iovlen) : recvmsg(stream->file, &message, MSG_DONTWAIT);
     stream->is_ready = tls_has_bytes(stream->tls);
     if (received < 0)
         return is_wait(stream, errno);
@@ -339,6 +349,7 @@ uint8_t *stream_space(struct stream *stream, size_t length)
 
 void stream_fill(struct stream *stream, size_t length)
 {
+    require(length <= stream->in.room - stream->in.end);
     stream->in.end += length;
 }
 

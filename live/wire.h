@@ -1,5 +1,6 @@
-/* Connections between the two hosts: TCP, plain on loopback alone and else by TLS, and Unix sockets. Each begins with a hello of the source,
-   frames follow it. On the main connection the destination says its own hello first. Between frames there may be beats. */
+/* Connections between the two hosts: TCP, plain on loopback alone and else by TLS, and Unix sockets. Each begins
+   with a hello of the source, frames follow it. On the main connection the destination says its own hello first.
+   Between frames there may be beats. */
 #ifndef WIRE_H
 #define WIRE_H
 
@@ -28,8 +29,8 @@ bool address_is_unix(const struct address *address);
 /* Whether only processes of this host are there: on loopback, or at a Unix socket. */
 bool address_is_local(const struct address *address);
 
-/* After how many bytes, in or out, a connection is cut, for tests: what is under way is lost, and the other side gets a reset. Those of
-   `post` go out after the switch, of a source, or after the End, of a destination. */
+/* After how many bytes, in or out, a connection is cut, for tests: what is under way is lost, and the other side
+   gets a reset. Those of `post` go out after the switch, of a source, or after the End, of a destination. */
 #define NEVER UINT64_MAX
 struct cut {
     uint64_t in, out, post;
@@ -51,9 +52,9 @@ struct stream {
     bool is_ready;   /* something may have arrived since the last receive: the caller sets it too, after poll(2) */
     struct bytes in, out;
     struct cut cut;
-    int error;                                                /* of what has broken the connection; 0: its end */
-    uint64_t sent, received;                                  /* bytes that the kernel has taken: the connection is made; and given */
-    bool beats;                                               /* both sides beat; */
+    int error;               /* of what has broken the connection; 0: its end */
+    uint64_t sent, received; /* bytes that the kernel has taken: the connection is made; and given */
+    bool beats;              /* both sides beat; */
     uint64_t sent_before, received_before, next_beat, silent; /* which beat.c counts */
 };
 #define NO_STREAM  \
@@ -61,11 +62,11 @@ struct stream {
         .file = -1 \
     }
 
-/* Options of a socket that carries frames, or that listens for such: those it accepts have the same. `buffer` is the size of its buffers in
-   the kernel, 0 for the kernel's own choice. False with errno. */
+/* Options of a socket that carries frames, or that listens for such: those it accepts have the same. `buffer` is
+   the size of its buffers in the kernel, 0 for the kernel's own choice. False with errno. */
 bool socket_set_up(int file, uint32_t buffer);
 
-/* Begins to connect. Returns -1 where nobody listens, with errno. */
+/* Begins to connect. Returns -1 where no one listens, with errno. */
 int wire_connect(const struct address *address, uint32_t buffer);
 
 /* Has the stream use a connection, with its session or NULL. Its buffers are empty. */
@@ -82,8 +83,8 @@ size_t stream_unsent(const struct stream *stream);
 /* Bytes that the kernel has taken and the other side has not. */
 size_t stream_under_way(const struct stream *stream);
 
-/* Each is false once the connection is broken. They send and receive what the kernel takes or has; at most `least` bytes, or a whole buffer
-   where that is more, are received. */
+/* Each is false once the connection is broken. They send and receive what the kernel takes or has; at most `least`
+   bytes, or a whole buffer where that is more, are received. */
 bool stream_send(struct stream *stream);
 bool stream_receive(struct stream *stream, size_t least);
 

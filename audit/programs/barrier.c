@@ -1,5 +1,6 @@
 /*
- * The write barrier of a collector: in each round the heap is write-protected while its threads run on, and the first store to a page marks it.
+ * The write barrier of a collector: in each round the heap is write-protected while its threads run on, and the first
+ * store to a page marks it.
  *
  *     pages threads touches   of the heap, and of each thread
  *     rounds handlers chunk   protections; threads that serve; pages that one of them unprotects at once
@@ -53,7 +54,7 @@ static void *mutate(void *number)
     return NULL;
 }
 
-/* After the last round nobody is protected from: a store is marked. */
+/* After the last round no one is protected from: a store is marked. */
 static void check_marks(void)
 {
     object_protect(object, heap, (size_t)pages * PAGE);

@@ -1,4 +1,5 @@
-/* What the programs share: options, checked calls of the C library, threads, random numbers, pages with known bytes. */
+/* What the programs share: options, checked calls of the C library, threads, random numbers, pages with known
+   bytes. */
 #ifndef COMMON_H
 #define COMMON_H
 
@@ -18,8 +19,9 @@ _Noreturn void fail(const char *format, ...) __attribute__((format(printf, 1, 2)
 _Noreturn void cannot(const char *what);
 
 /*
- * Options are words NAME=NUMBER, and wrong=KIND. options_end refuses a word that was not asked for, and starts the watchdog. All programs have seed,
- * seconds (until the watchdog ends them), at (wrong_now), and ids: whether messages have the thread that faults.
+ * Options are words NAME=NUMBER, and wrong=KIND. options_end refuses a word that was not asked for, and starts the
+ * watchdog. All programs have seed, seconds (until the watchdog ends them), at (wrong_now), and ids: whether messages
+ * have the thread that faults.
  */
 void options_begin(int argc, char **argv);
 long option(const char *name, long otherwise);
@@ -27,7 +29,8 @@ void options_end(void);
 
 bool asks_for_threads(void); /* the option ids */
 
-/* Whether this fault is planted; and whether now is the one time that it is made, with a page: the `at`th time that this is asked, which is said. */
+/* Whether this fault is planted; and whether now is the one time that it is made, with a page: the `at`th time that
+   this is asked, which is said. */
 bool is_wrong(const char *kind);
 bool wrong_now(const char *kind, uint64_t page);
 

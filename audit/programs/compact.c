@@ -1,6 +1,6 @@
 /*
- * A collector that moves its heap, as Android's does: in a pause the pages go elsewhere by mremap with MREMAP_DONTUNMAP, and the threads that run on
- * find them again, compacted, where they were.
+ * A collector that moves its heap, as Android's does: in a pause the pages go elsewhere by mremap with
+ * MREMAP_DONTUNMAP, and the threads that run on find them again, compacted, where they were.
  *
  *     pages threads touches   of the heap
  *     rounds                  collections
@@ -85,7 +85,7 @@ static void pause_world(void)
         object_register(object, heap, length, UFFDIO_REGISTER_MODE_MISSING);
 }
 
-/* What nobody has asked for is put by the collector. */
+/* What no one has asked for is put by the collector. */
 static void finish_round(void)
 {
     size_t length = (size_t)pages * PAGE;

@@ -1,6 +1,6 @@
 /*
- * Memory that is loaded lazily and tracked from the first: a page comes write-protected (UFFDIO_COPY with MODE_WP), and the first store marks it. At
- * each checkpoint what is marked is written out and protected again.
+ * Memory that is loaded lazily and tracked from the first: a page comes write-protected (UFFDIO_COPY with MODE_WP), and
+ * the first store marks it. At each checkpoint what is marked is written out and protected again.
  *
  *     pages threads touches   of the memory
  *     rounds                  checkpoints
@@ -20,7 +20,9 @@ static atomic_bool is_done;
 
 static void put_protected(uint64_t page, uint64_t number)
 {
-    struct uffdio_copy call = { .dst = page, .src = address(source) + number * PAGE, .len = PAGE, .mode = UFFDIO_COPY_MODE_WP };
+    struct uffdio_copy call = {
+        .dst = page, .src = address(source) + number * PAGE, .len = PAGE, .mode = UFFDIO_COPY_MODE_WP
+    };
 
     (void)put_of(object, page, ioctl(object, UFFDIO_COPY, &call));
 }

@@ -1,6 +1,7 @@
 /*
- * A microVM restored from a snapshot: the monitor's process makes the object, sends it to a handler's process, and closes its own. A balloon may
- * give pages of the guest back meanwhile: REMOVE. The guest has zeros there then, and no longer what the snapshot has.
+ * A microVM restored from a snapshot: the monitor's process makes the object, sends it to a handler's process, and
+ * closes its own. A balloon may give pages of the guest back meanwhile: REMOVE. The guest has zeros there then, and no
+ * longer what the snapshot has.
  *
  *     pages threads touches   of the guest
  *     balloon batch keep      ranges that it gives back; messages a read; whether the monitor keeps its descriptor
@@ -126,7 +127,8 @@ static void *run_processor(void *number)
         if (i % 3 == 0)
             ((volatile uint64_t *)(guest + page * PAGE))[8 + own] = page;
         found = first_word(guest + page * PAGE);
-        if (found != word_of(page) && (found || !balloon) && !is_wrong("elsewhere") && !is_wrong("bytes") && !is_wrong("closed"))
+        if (found != word_of(page) && (found || !balloon) && !is_wrong("elsewhere") && !is_wrong("bytes") &&
+            !is_wrong("closed"))
             fail("page %llu has the bytes of another", (unsigned long long)page);
         if (i % 16 == 0)
             nap(&random, 50);
@@ -140,7 +142,8 @@ static void *inflate_balloon(void *unused)
 
     (void)unused;
     for (long i = 0; i < balloon; i++) {
-        uint64_t count = 1 + random_below(&random, BALLOON_PAGES), first = random_below(&random, (uint64_t)pages - count);
+        uint64_t count = 1 + random_below(&random, BALLOON_PAGES),
+                 first = random_below(&random, (uint64_t)pages - count);
 
         if (madvise(guest + first * PAGE, count * PAGE, MADV_DONTNEED))
             fail("madvise");

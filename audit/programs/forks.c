@@ -1,5 +1,6 @@
 /*
- * A process that forks while its pages come: the handler gets an object for each child with the message FORK, and serves both.
+ * A process that forks while its pages come: the handler gets an object for each child with the message FORK, and
+ * serves both.
  *
  *     pages threads touches   of the parent; each child touches as many pages, in one thread
  *     children                one after the other

@@ -1,5 +1,6 @@
 /*
- * Guest memory that two mappings share: the guest's is watched, and the other one gets the bytes. Minor faults are ended by UFFDIO_CONTINUE.
+ * Guest memory that two mappings share: the guest's is watched, and the other one gets the bytes. Minor faults are
+ * ended by UFFDIO_CONTINUE.
  *
  *     pages threads touches   of the guest; with `huge` each page has two MiB
  *     missing                 whether missing pages are watched too: if not, all pages are put before

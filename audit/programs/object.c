@@ -142,9 +142,12 @@ void send_object(int socket, int object, const void *with, size_t bytes)
 {
     union control control = { .bytes = { 0 } };
     struct iovec part = { (void *)with, bytes };
-    struct msghdr message = { .msg_iov = &part, .msg_iovlen = 1, .msg_control = control.bytes, .msg_controllen = sizeof control.bytes };
+    struct msghdr message = {
+        .msg_iov = &part, .msg_iovlen = 1, .msg_control = control.bytes, .msg_controllen = sizeof control.bytes
+    };
 
-    control.head = (struct cmsghdr){ .cmsg_len = CMSG_LEN(sizeof object), .cmsg_level = SOL_SOCKET, .cmsg_type = SCM_RIGHTS };
+    control.head =
+        (struct cmsghdr){ .cmsg_len = CMSG_LEN(sizeof object), .cmsg_level = SOL_SOCKET, .cmsg_type = SCM_RIGHTS };
     memcpy(CMSG_DATA(&control.head), &object, sizeof object);
     if (sendmsg(socket, &message, 0) != (ssize_t)bytes)
         fail("sendmsg");
@@ -154,7 +157,9 @@ int receive_object(int socket, void *with, size_t bytes)
 {
     union control control = { .bytes = { 0 } };
     struct iovec part = { with, bytes };
-    struct msghdr message = { .msg_iov = &part, .msg_iovlen = 1, .msg_control = control.bytes, .msg_controllen = sizeof control.bytes };
+    struct msghdr message = {
+        .msg_iov = &part, .msg_iovlen = 1, .msg_control = control.bytes, .msg_controllen = sizeof control.bytes
+    };
     struct cmsghdr *head;
     int object;
 

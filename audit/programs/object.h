@@ -1,4 +1,5 @@
-/* The calls of a userfaultfd, each checked, and what a handler does after answers that are not errors of its own. */
+/* The calls of a userfaultfd, each checked, and what a handler does after answers that are not errors of its
+   own. */
 #ifndef OBJECT_H
 #define OBJECT_H
 
@@ -11,7 +12,8 @@
 
 #define MOST_MESSAGES 64
 
-/* Opens an object, not blocking, with these features. Ends the program with STATUS_CANNOT where the kernel has them not. */
+/* Opens an object, not blocking, with these features. Ends the program with STATUS_CANNOT where the kernel has them
+   not. */
 int object_open(uint64_t features);
 void object_close(int object);
 void object_register(int object, const void *start, size_t length, uint64_t mode);
@@ -36,7 +38,8 @@ enum put put_of(int object, uint64_t page, int result);
 /* Reads up to `room` messages. 0 where there is none. */
 size_t object_read(int object, struct uffd_msg *messages, size_t room);
 uint64_t page_of(const struct uffd_msg *message);
-/* Whether the object or the other descriptor has something to read, after this wait in milliseconds at the most (-1: for ever). */
+/* Whether the object or the other descriptor has something to read, after this wait in milliseconds at the most
+   (-1: for ever). */
 struct ready {
     bool object, other;
 };

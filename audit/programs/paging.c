@@ -1,6 +1,6 @@
 /*
- * Paging in user space: of `pages` only `room` are in memory. A page is evicted by write protection, a copy to the store, and MADV_DONTNEED, and
- * comes back at its next fault.
+ * Paging in user space: of `pages` only `room` are in memory. A page is evicted by write protection, a copy to the
+ * store, and MADV_DONTNEED, and comes back at its next fault.
  *
  *     pages room              of the area, and how many of them are in memory
  *     threads touches         each counts in its own words of the pages

@@ -1,5 +1,6 @@
 /*
- * Handlers in processes of their own, which inherit the object by fork(2) and wait in blocking reads. They are ended by a signal.
+ * Handlers in processes of their own, which inherit the object by fork(2) and wait in blocking reads. They are ended by
+ * a signal.
  *
  *     pages threads touches   of the guest
  *     handlers                processes

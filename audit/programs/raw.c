@@ -1,5 +1,6 @@
 /*
- * Makes each system call on the object by itself, as the runtimes of other languages do: a preloaded library sees none of them.
+ * Makes each system call on the object by itself, as the runtimes of other languages do: a preloaded library sees none
+ * of them.
  *
  *     pages threads touches   of the area
  */

@@ -22,14 +22,17 @@ static int objects[MOST_OBJECTS];
 static char *areas[MOST_OBJECTS], *source;
 static atomic_bool is_done;
 
-/* Puts pages, but those that are there: a call stops at the first of these. Returns whether it has put the one that is asked for. */
+/* Puts pages, but those that are there: a call stops at the first of these. Returns whether it has put the one that
+   is asked for. */
 static bool put_window(int object, uint64_t start, const char *from, uint64_t count, uint64_t asked)
 {
     uint64_t at = 0;
     bool has_put = false;
 
     while (at < count) {
-        struct uffdio_copy call = { .dst = start + at * PAGE, .src = address(from) + at * PAGE, .len = (count - at) * PAGE };
+        struct uffdio_copy call = { .dst = start + at * PAGE,
+                                    .src = address(from) + at * PAGE,
+                                    .len = (count - at) * PAGE };
         uint64_t done;
         int result;
 

@@ -1,6 +1,7 @@
 /*
- * A process restored lazily: the task makes the object, sends it to a daemon with the places of its areas, and closes its own. It moves one area and
- * unmaps a part of the other while the daemon serves it: REMAP and UNMAP. The daemon puts what is asked for, and with `push` the rest too.
+ * A process restored lazily: the task makes the object, sends it to a daemon with the places of its areas, and closes
+ * its own. It moves one area and unmaps a part of the other while the daemon serves it: REMAP and UNMAP. The daemon
+ * puts what is asked for, and with `push` the rest too.
  *
  *     pages threads touches   of the task: pages of each of two areas
  *     moves batch push        how often the first area moves; messages a read; whether the daemon puts the rest
@@ -45,7 +46,8 @@ static void move_parts(uint64_t from, uint64_t to, uint64_t length)
 static void cut_parts(uint64_t start, uint64_t end)
 {
     for (size_t i = 0; i < part_count && !is_wrong("unmap"); i++)
-        if (start > parts[i].start && start < parts[i].start + parts[i].count * PAGE && end >= parts[i].start + parts[i].count * PAGE)
+        if (start > parts[i].start && start < parts[i].start + parts[i].count * PAGE &&
+            end >= parts[i].start + parts[i].count * PAGE)
             parts[i].count = (start - parts[i].start) / PAGE;
 }
 
@@ -86,7 +88,7 @@ static void serve_waiting(int object)
     waiting_count = kept;
 }
 
-/* One more page of those that nobody has asked for: in the order of the image. False where there is none. */
+/* One more page of those that no one has asked for: in the order of the image. False where there is none. */
 static bool push_one(int object)
 {
     for (size_t i = 0; push && i < part_count; i++) {
@@ -94,7 +96,8 @@ static bool push_one(int object)
 
         if (pushed < parts[i].first || number >= (uint64_t)pages)
             continue;
-        if (number >= parts[i].count || put_copy(object, parts[i].start + number * PAGE, image + pushed * PAGE) != AGAIN)
+        if (number >= parts[i].count ||
+            put_copy(object, parts[i].start + number * PAGE, image + pushed * PAGE) != AGAIN)
             pushed++;
         return true;
     }
@@ -111,8 +114,7 @@ static void serve_task(int socket)
     for (part_count = 0; part_count < AREAS; part_count++)
         parts[part_count] = (struct part){ starts[part_count], (uint64_t)pages, part_count * (uint64_t)pages };
     while (!ready.other) {
-        ready = object_poll(object, socket, waiting_count ? 0 : is_pushing ? 1
-                                                                           : -1);
+        ready = object_poll(object, socket, waiting_count ? 0 : is_pushing ? 1 : -1);
         if (ready.object && waiting_count + (size_t)batch <= sizeof waiting / sizeof *waiting)
             take(object);
         serve_waiting(object);

@@ -1,5 +1,6 @@
 /*
- * No messages: with UFFD_FEATURE_SIGBUS a thread that meets a missing page gets SIGBUS, and puts the page in its handler.
+ * No messages: with UFFD_FEATURE_SIGBUS a thread that meets a missing page gets SIGBUS, and puts the page in its
+ * handler.
  *
  *     pages threads touches   of the area
  */

@@ -1,6 +1,6 @@
 /*
- * A cache of files that are mapped lazily: each thread maps a slot, registers it, reads some of it, and unmaps it again. The handler gets UNMAP for a
- * slot that is unmapped while it is registered; another one is unregistered first.
+ * A cache of files that are mapped lazily: each thread maps a slot, registers it, reads some of it, and unmaps it
+ * again. The handler gets UNMAP for a slot that is unmapped while it is registered; another one is unregistered first.
  *
  *     pages threads touches   of a slot, and what is read of it
  *     rounds batch            slots of each thread, one after the other; messages a read
@@ -50,7 +50,8 @@ static void *handle(void *unused)
     while (!atomic_load(&is_done)) {
         size_t kept = 0;
 
-        if (object_poll(object, -1, waiting_count ? 0 : 20).object && waiting_count + (size_t)batch <= sizeof waiting / sizeof *waiting)
+        if (object_poll(object, -1, waiting_count ? 0 : 20).object &&
+            waiting_count + (size_t)batch <= sizeof waiting / sizeof *waiting)
             take();
         for (size_t i = 0; i < waiting_count; i++)
             if (serve(waiting[i]) == AGAIN)

@@ -1,8 +1,9 @@
 /*
- * Background snapshots: the area is write-protected at once, saved page by page, and a page that somebody is about to change is saved first.
+ * Background snapshots: the area is write-protected at once, saved page by page, and a page that someone is about to
+ * change is saved first.
  *
  *     pages threads touches   of the area, and of those that change it
- *     rounds whole            snapshots; whether the protection of what nobody changed is taken away at the end, as a whole
+ *     rounds whole            snapshots; whether the protection of what no one changed is removed at the end
  */
 #include <stdatomic.h>
 #include <string.h>
@@ -16,7 +17,7 @@ static char *area, *saved;
 static bool *is_saved;
 static atomic_int running;
 
-/* Saves a page that nobody can change, and lets it be changed. */
+/* Saves a page that no one can change, and lets it be changed. */
 static void save(uint64_t number, bool unprotects)
 {
     char *page = area + number * PAGE;

@@ -1,5 +1,6 @@
 /*
- * Asynchronous tracking: write protection that the kernel itself takes away (WP_ASYNC), and PAGEMAP_SCAN, which finds the pages that were written.
+ * Asynchronous tracking: write protection that the kernel itself takes away (WP_ASYNC), and PAGEMAP_SCAN, which finds
+ * the pages that were written.
  *
  *     pages threads touches   of the area
  *     rounds                  scans

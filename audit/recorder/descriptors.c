@@ -71,14 +71,16 @@ INTERPOSED int close_range(unsigned first, unsigned last, int flags)
         for (unsigned fd = first; fd <= last && (long)fd <= object_highest(); fd++)
             if (object_is_possible((int)fd))
                 (void)close((int)fd); /* (as close_range, which reports no error of a file) */
-    return log_is_open() && first <= last ? close_around_log(first, last, flags) : next()->close_range(first, last, flags);
+    return log_is_open() && first <= last ? close_around_log(first, last, flags)
+                                          : next()->close_range(first, last, flags);
 }
 
 INTERPOSED void closefrom(int low)
 {
     int error = errno;
 
-    (void)close_range(low < 0 ? 0 : (unsigned)low, UINT_MAX, 0); /* as the C library's, it has nobody to report to */
+    /* as the C library's, it has no one to report to */
+    (void)close_range(low < 0 ? 0 : (unsigned)low, UINT_MAX, 0);
     errno = error;
 }
 

@@ -11,7 +11,8 @@ struct call begin_of_object(const char *word, uint64_t object, int fd)
     return log_begin(&line);
 }
 
-void end_call(const struct call *call, bool failed, int error, void (*answer)(struct text *line, const void *of), const void *of)
+void end_call(const struct call *call, bool failed, int error, void (*answer)(struct text *line, const void *of),
+              const void *of)
 {
     char bytes[LINE_BYTES];
     struct text line = text_over(bytes, sizeof bytes);

@@ -32,7 +32,8 @@ static bool is_the_log(int fd)
 {
     struct stat found = { 0 };
 
-    return fd >= 0 && !raw_failed(raw_call(SYS_fstat, fd, (long)&found, 0, 0, 0, 0)) && found.st_ino == log_inode && found.st_dev == log_device;
+    return fd >= 0 && !raw_failed(raw_call(SYS_fstat, fd, (long)&found, 0, 0, 0, 0)) && found.st_ino == log_inode &&
+        found.st_dev == log_device;
 }
 
 static int open_high(void)
@@ -93,7 +94,8 @@ void log_leave(int fd)
     atomic_store(&log_fd, raw_failed(moved) ? -1 : (int)moved);
 }
 
-/* The log's descriptor: opened again where the program has closed it by a call that is not seen here, or has put another file there. */
+/* The log's descriptor: opened again where the program has closed it by a call that is not seen here, or has put
+   another file there. */
 static int descriptor(void)
 {
     int fd = atomic_load_explicit(&log_fd, memory_order_relaxed);
@@ -168,8 +170,8 @@ static uint64_t now(void)
 }
 
 /*
- * Writes a line; with a new number where it is none yet. Signals are blocked, since a handler that records a call would put its later time
- * and its higher number above this line.
+ * Writes a line; with a new number where it is none yet. Signals are blocked, since a handler that records a call would
+ * put its later time and its higher number above this line.
  */
 static void write_entry(struct call *call, const char *kind, bool numbered, struct text *rest)
 {
@@ -200,7 +202,8 @@ struct call log_caller(void)
 {
     struct call caller = { .tid = raw_call(SYS_gettid, 0, 0, 0, 0, 0, 0) };
 
-    /* The process of a thread never changes, and a thread that lives keeps its number: only another one asks again. */
+    /* The process of a thread never changes, and a thread that lives keeps its number: only another one asks
+       again. */
     if (last_tid == caller.tid) {
         caller.pid = last_pid;
         return caller;

@@ -13,7 +13,8 @@ bool memory_copy(void *to, const void *from, size_t bytes)
     struct iovec here = { to, bytes }, there = { (void *)from, bytes };
     long copied = raw_call(SYS_process_vm_readv, log_last_thread(), (long)&here, 1, (long)&there, 1, 0);
 
-    if ((copied == -ENOSYS || copied == -EPERM) && from) { /* a kernel without it, or a filter: then a bad address is a signal here */
+    if ((copied == -ENOSYS || copied == -EPERM) && from) { /* a kernel without it, or a filter: then a bad address is a
+                                                              signal here */
         memcpy(to, from, bytes);
         return true;
     }

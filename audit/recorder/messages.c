@@ -191,7 +191,8 @@ static void begin_polled(struct polled *polled, const struct pollfd *one, nfds_t
     polled->calls[polled->count++] = begin_of_object("poll", object, one->fd);
 }
 
-/* (`fds` is not const: gcc takes poll(2) for one that only writes there, and warns of what it hands on to be read) */
+/* (`fds` is not const: gcc takes poll(2) for one that only writes there, and warns of what it hands on to be
+   read) */
 static void begin_poll(struct polled *polled, struct pollfd *fds, nfds_t count)
 {
     struct pollfd chunk[POLL_CHUNK];
@@ -254,7 +255,8 @@ INTERPOSED int __poll_chk(struct pollfd *fds, nfds_t count, int timeout, size_t 
     return poll(fds, count, timeout);
 }
 
-INTERPOSED int __ppoll_chk(struct pollfd *fds, nfds_t count, const struct timespec *timeout, const sigset_t *mask, size_t bytes)
+INTERPOSED int __ppoll_chk(struct pollfd *fds, nfds_t count, const struct timespec *timeout, const sigset_t *mask,
+                           size_t bytes)
 {
     (void)bytes;
     return ppoll(fds, count, timeout, mask);

@@ -1,4 +1,5 @@
-/* The names of errors. (strerrorname_np is in newer C libraries alone, and is not said to be safe in a signal handler.) */
+/* The names of errors. (strerrorname_np is in newer C libraries alone, and is not said to be safe in a signal
+   handler.) */
 #ifndef NAMES_H
 #define NAMES_H
 

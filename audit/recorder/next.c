@@ -22,7 +22,8 @@ static int close_range_by_kernel(unsigned first, unsigned last, int flags)
     return -1;
 }
 
-/* A function pointer from dlsym, which returns an object's: the standard has no conversion, POSIX promises the bytes. */
+/* A function pointer from dlsym, which returns an object's: the standard has no conversion, POSIX promises the
+   bytes. */
 static void look_up(void *function, const char *name)
 {
     void *symbol = dlsym(RTLD_NEXT, name);

@@ -1,6 +1,6 @@
 /*
- * The functions that the recorder takes the place of, as the program would have called them without it: those of the C library, or of
- * another library that is preloaded.
+ * The functions that the recorder takes the place of, as the program would have called them without it: those of the C
+ * library, or of another library that is preloaded.
  */
 #ifndef NEXT_H
 #define NEXT_H

@@ -11,12 +11,13 @@
 
 #include "raw.h"
 
-#define MOST_FDS (1 << 20) /* the kernel's own limit, unless fs.nr_open was raised: descriptors above it are not recorded */
+/* the kernel's own limit, unless fs.nr_open was raised: descriptors above it are not recorded */
+#define MOST_FDS (1 << 20)
 #define OWN (UINT64_C(1) << 63)
 
 /*
- * What the log knows of each descriptor of the process `owner`: the object, and OWN where the process has made it. (Pages of this table
- * that are never used cost nothing.)
+ * What the log knows of each descriptor of the process `owner`: the object, and OWN where the process has made it.
+ * (Pages of this table that are never used cost nothing.)
  */
 static _Atomic uint64_t known[MOST_FDS];
 static _Atomic int highest = -1;
@@ -100,7 +101,8 @@ void object_introduce(uint64_t object, int fd, bool own)
     if (fd < 0 || fd >= MOST_FDS)
         return;
     held = atomic_exchange(&known[fd], object | (own ? OWN : 0)) & ~OWN;
-    if (held && held != object && is_owner()) /* it was closed by a call that is not seen here, or its close has yet to write its end */
+    if (held && held != object && is_owner()) /* it was closed by a call that is not seen here, or its close has yet to
+                                                 write its end */
         note("dropped", held, fd);
     while (top < fd && !atomic_compare_exchange_weak(&highest, &top, fd))
         ;

@@ -1,6 +1,6 @@
 /*
- * System calls without the C library: they leave errno alone, are no cancellation points, and are safe in signal handlers.
- * A result from -4095 to -1 is minus an errno.
+ * System calls without the C library: they leave errno alone, are no cancellation points, and are safe in signal
+ * handlers. A result from -4095 to -1 is minus an errno.
  */
 #ifndef RAW_H
 #define RAW_H
@@ -38,10 +38,7 @@ static inline long raw_call(long number, long a, long b, long c, long d, long e,
     register long x4 __asm__("x4") = e;
     register long x5 __asm__("x5") = f;
 
-    __asm__ volatile("svc 0"
-                     : "+r"(x0)
-                     : "r"(x8), "r"(x1), "r"(x2), "r"(x3), "r"(x4), "r"(x5)
-                     : "memory", "cc");
+    __asm__ volatile("svc 0" : "+r"(x0) : "r"(x8), "r"(x1), "r"(x2), "r"(x3), "r"(x4), "r"(x5) : "memory", "cc");
     return x0;
 }
 #else

@@ -1,6 +1,6 @@
 /*
- * What all processes of one log share: a page of a file that audit/record makes, so that it outlives fork, exec and kill. Without
- * that file it is a page of this process alone.
+ * What all processes of one log share: a page of a file that audit/record makes, so that it outlives fork, exec and
+ * kill. Without that file it is a page of this process alone.
  */
 #ifndef SHARED_H
 #define SHARED_H
@@ -28,8 +28,8 @@ void shared_map(const char *path);
 struct shared *shared(void);
 
 /*
- * Ranges that were ever registered, or that something registered was moved to. None is taken away, so that a map call may be recorded
- * that no longer meets one; a reader expects that.
+ * Ranges that were ever registered, or that something registered was moved to. None is taken away, so that a map call
+ * may be recorded that no longer meets one; a reader expects that.
  */
 void ranges_add(struct shared *page, uint64_t start, uint64_t length);
 bool ranges_any(struct shared *page);

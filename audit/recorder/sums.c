@@ -49,7 +49,8 @@ static void write_sum(long file, const struct call *call, uint64_t address, uint
     text_hex(&line, address);
     text_hex(&line, sum);
     text_end(&line);
-    (void)raw_call(SYS_write, file, (long)bytes, (long)line.length, 0, 0, 0); /* a line that is missing is counted by audit/sums */
+    /* a line that is missing is counted by audit/sums */
+    (void)raw_call(SYS_write, file, (long)bytes, (long)line.length, 0, 0, 0);
 }
 
 void record_sums(const struct call *call, uint64_t destination, uint64_t source, uint64_t length)

@@ -1,4 +1,5 @@
-/* One line of a log, built in a buffer of the caller's. No allocation, no locale, no lock: safe in a signal handler. */
+/* One line of a log, built in a buffer of the caller's. No allocation, no locale, no lock: safe in a signal
+   handler. */
 #ifndef TEXT_H
 #define TEXT_H
 

@@ -25,7 +25,8 @@
 #define UFFDIO_MOVE _IOWR(UFFDIO, 0x05, uint64_t[5])
 #endif
 
-/* Each structure is 64-bit numbers alone: first what the call is given, and then, from `answer` on, what the kernel returns. */
+/* Each structure is 64-bit numbers alone: first what the call is given, and then, from `answer` on, what the kernel
+   returns. */
 struct kind {
     unsigned long request;
     const char *word;

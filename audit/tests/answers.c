@@ -1,9 +1,11 @@
 /*
- * Asks this machine's kernel for the answers that `kernel_rules` allows and forbids, each by one call: its log is then judged too.
+ * Asks this machine's kernel for the answers that `kernel_rules` allows and forbids, each by one call: its log is then
+ * judged too.
  *
  *     answers
  *
- * Prints each question whose answer is another one, and has status 1 then; 77 where the kernel has no userfaultfd for it.
+ * Prints each question whose answer is another one, and has status 1 then; 77 where the kernel has no userfaultfd for
+ * it.
  */
 #include <errno.h>
 #include <fcntl.h>
@@ -89,7 +91,8 @@ static void ask_early(void)
     long long bytes;
 
     expect("open, an unknown flag", EINVAL, result((int)syscall(SYS_userfaultfd, O_NONBLOCK | 0x40)));
-    expect("register before the handshake", EINVAL, register_in(object, memory, PAGE, UFFDIO_REGISTER_MODE_MISSING, &ioctls));
+    expect("register before the handshake", EINVAL,
+           register_in(object, memory, PAGE, UFFDIO_REGISTER_MODE_MISSING, &ioctls));
     expect("copy before the handshake", EINVAL, copy_to(object, (uintptr_t)memory, (uintptr_t)source, PAGE, &bytes));
     expect("read before the handshake", EINVAL, result((int)read(object, &message, sizeof message)));
     expect("poll before the handshake", 1, poll(&polled, 1, 0));
@@ -112,7 +115,8 @@ static void ask_registration(void)
 
     expect("register", 0, register_in(object, memory, 4 * PAGE, UFFDIO_REGISTER_MODE_MISSING, &ioctls));
     expect("UFFDIO_WAKE and UFFDIO_COPY", 1, (ioctls >> _UFFDIO_WAKE & 1) && (ioctls >> _UFFDIO_COPY & 1));
-    expect("register above the user's half", EINVAL, register_in(object, (void *)ABOVE, PAGE, UFFDIO_REGISTER_MODE_MISSING, &ioctls));
+    expect("register above the user's half", EINVAL,
+           register_in(object, (void *)ABOVE, PAGE, UFFDIO_REGISTER_MODE_MISSING, &ioctls));
 }
 
 static void ask_poll(void)

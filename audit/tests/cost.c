@@ -1,6 +1,6 @@
 /*
- * How many installs a second a thread makes: `cost [SECONDS]` prints "INSTALLS copies a second". Each round installs all pages of a
- * range, one UFFDIO_COPY a page, and takes them away by one MADV_DONTNEED, which is not counted.
+ * How many installs a second a thread makes: `cost [SECONDS]` prints "INSTALLS copies a second". Each round installs
+ * all pages of a range, one UFFDIO_COPY a page, and takes them away by one MADV_DONTNEED, which is not counted.
  */
 #include <errno.h>
 #include <fcntl.h>

@@ -1,4 +1,5 @@
-/* Tests of the recorder's parts that need no userfaultfd: `make -C recorder check` runs them under both sanitizers. */
+/* Tests of the recorder's parts that need no userfaultfd: `make -C recorder check` runs them under both
+   sanitizers. */
 #include <errno.h>
 #include <fcntl.h>
 #include <limits.h>
@@ -178,7 +179,8 @@ static void test_lost(void)
     CHECK(fclose(file) == 0 && unlink(path) == 0);
 }
 
-/* The program closes the log's descriptor, or puts another file there: it is opened again, and the file is left alone. */
+/* The program closes the log's descriptor, or puts another file there: it is opened again, and the file is left
+   alone. */
 static void test_taken(void)
 {
     char path[] = "/tmp/uffdlog-parts-XXXXXX", other_path[] = "/tmp/uffdlog-other-XXXXXX";
@@ -249,7 +251,8 @@ static void test_objects(void)
 {
     int fd = open("/dev/null", O_RDONLY);
 
-    CHECK(!object_any_is_possible() && !object_is_possible(fd) && !object_is_possible(-1) && !object_is_possible(INT_MAX));
+    CHECK(!object_any_is_possible() && !object_is_possible(fd) && !object_is_possible(-1) &&
+          !object_is_possible(INT_MAX));
     CHECK(object_identify(fd) == 0 && object_identify(-1) == 0 && object_identify(INT_MAX) == 0);
     CHECK(object_for_line(fd) == 0 && object_for_line(-1) == 0);
     CHECK(close(fd) == 0);

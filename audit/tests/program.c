@@ -1,5 +1,6 @@
 /*
- * Uses a userfaultfd in every way that a log has a line for, in several threads and processes: what `audit/test` records.
+ * Uses a userfaultfd in every way that a log has a line for, in several threads and processes: what `audit/test`
+ * records.
  *
  *     program          status 0; 77 where the kernel allows no userfaultfd, or not what is needed of it
  */
@@ -30,7 +31,8 @@
 #define PAGES 64u
 #define WORKERS 2
 #define STATUS_CANNOT 77
-#define EVENTS (UFFD_FEATURE_EVENT_FORK | UFFD_FEATURE_EVENT_REMAP | UFFD_FEATURE_EVENT_REMOVE | UFFD_FEATURE_EVENT_UNMAP)
+#define EVENTS \
+    (UFFD_FEATURE_EVENT_FORK | UFFD_FEATURE_EVENT_REMAP | UFFD_FEATURE_EVENT_REMOVE | UFFD_FEATURE_EVENT_UNMAP)
 #define FEATURES (UFFD_FEATURE_PAGEFAULT_FLAG_WP | UFFD_FEATURE_THREAD_ID | EVENTS)
 
 static int object = -1;               /* the object under test */
@@ -119,7 +121,8 @@ static void protect(int fd, uint64_t start, uint64_t length)
         fail("UFFDIO_WRITEPROTECT");
 }
 
-/* Allows stores to a page. While an event is unread the kernel says EAGAIN: the thread is woken, and faults again after it. */
+/* Allows stores to a page. While an event is unread the kernel says EAGAIN: the thread is woken, and faults again
+   after it. */
 static void unprotect(int fd, uint64_t page)
 {
     struct uffdio_writeprotect call = { { page, PAGE }, 0 };
@@ -239,7 +242,8 @@ static void change_map(void)
     *(volatile char *)spare = 1;
     if (munmap(spare, 4 * PAGE))
         fail("munmap");
-    if (mmap(area + 8 * PAGE, 4 * PAGE, PROT_READ | PROT_WRITE, MAP_PRIVATE | MAP_ANONYMOUS | MAP_FIXED, -1, 0) != area + 8 * PAGE)
+    if (mmap(area + 8 * PAGE, 4 * PAGE, PROT_READ | PROT_WRITE, MAP_PRIVATE | MAP_ANONYMOUS | MAP_FIXED, -1, 0) !=
+        area + 8 * PAGE)
         fail("mmap over a hole");
     run_workers();
 }
@@ -317,7 +321,9 @@ static void pass_descriptor(void)
     } control = { .bytes = { 0 } };
     char byte = 0;
     struct iovec part = { &byte, 1 };
-    struct msghdr message = { .msg_iov = &part, .msg_iovlen = 1, .msg_control = control.bytes, .msg_controllen = sizeof control.bytes };
+    struct msghdr message = {
+        .msg_iov = &part, .msg_iovlen = 1, .msg_control = control.bytes, .msg_controllen = sizeof control.bytes
+    };
     int ends[2], received;
     pid_t child;
 
@@ -334,7 +340,8 @@ static void pass_descriptor(void)
         _exit(close(received) != 0);
     }
     message.msg_control = control.bytes;
-    control.head = (struct cmsghdr){ .cmsg_len = CMSG_LEN(sizeof(int)), .cmsg_level = SOL_SOCKET, .cmsg_type = SCM_RIGHTS };
+    control.head =
+        (struct cmsghdr){ .cmsg_len = CMSG_LEN(sizeof(int)), .cmsg_level = SOL_SOCKET, .cmsg_type = SCM_RIGHTS };
     memcpy(CMSG_DATA(&control.head), &object, sizeof object);
     if (sendmsg(ends[0], &message, 0) != 1)
         fail("sendmsg");
@@ -387,11 +394,13 @@ static void make_mistakes(void)
 /* Objects that end in other ways: closed with a whole range, and by another file that takes the number. */
 static void end_others(void)
 {
-    int first = open_object(O_CLOEXEC), second = open_object(O_CLOEXEC), other = open("/dev/null", O_RDONLY | O_CLOEXEC);
+    int first = open_object(O_CLOEXEC), second = open_object(O_CLOEXEC),
+        other = open("/dev/null", O_RDONLY | O_CLOEXEC);
 
     handshake(first, 0);
     handshake(second, 0);
-    if (other < 0 || dup2(other, first) != first || close_range((unsigned)second, (unsigned)second, 0) || close(other) || close(first))
+    if (other < 0 || dup2(other, first) != first || close_range((unsigned)second, (unsigned)second, 0) ||
+        close(other) || close(first))
         fail("the end of other objects");
 }
 

@@ -1,6 +1,6 @@
 /*
- * Calls whose answers are in a log before the end of the call that they need: a page is copied while munmap unmaps it, and pages fault and are
- * copied while UFFDIO_REGISTER registers them.
+ * Calls whose answers are in a log before the end of the call that they need: a page is copied while munmap unmaps it,
+ * and pages fault and are copied while UFFDIO_REGISTER registers them.
  *
  *     races [CHUNKS]
  *

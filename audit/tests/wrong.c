@@ -1,10 +1,11 @@
 /*
- * Makes one UFFDIO_COPY of a program wrong, as a bug of the program itself would: preloaded above the recorder, which sees what is left.
+ * Makes one UFFDIO_COPY of a program wrong, as a bug of the program itself would: preloaded above the recorder, which
+ * sees what is left.
  *
  *     WRONG_COPY=KIND:N LD_PRELOAD=wrong.so:recorder.so PROGRAM ..
  *
- * The copy is the first one of the fault that was read last, once N copies were made. KIND: `skip` says ok and does nothing, `dontwake`
- * asks for no wake, `twice` makes the call twice and has the second one's result.
+ * The copy is the first one of the fault that was read last, once N copies were made. KIND: `skip` says ok and does
+ * nothing, `dontwake` asks for no wake, `twice` makes the call twice and has the second one's result.
  */
 #include <dlfcn.h>
 #include <errno.h>
@@ -49,8 +50,8 @@ static bool is_chosen(int fd, const struct uffdio_copy *copy)
 {
     bool expected = false;
 
-    return first >= 0 && fd == atomic_load(&object) && atomic_fetch_add(&copies, 1) >= first && copy->dst == atomic_load(&asked) &&
-        atomic_compare_exchange_strong(&is_done, &expected, true);
+    return first >= 0 && fd == atomic_load(&object) && atomic_fetch_add(&copies, 1) >= first &&
+        copy->dst == atomic_load(&asked) && atomic_compare_exchange_strong(&is_done, &expected, true);
 }
 
 static int wrong_copy(int fd, struct uffdio_copy *copy)

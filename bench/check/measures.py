@@ -3,10 +3,10 @@
 
 python3 bench/check/measures.py [--list MEASURE] [--write]
 
-Prints the measures and, of each group of crates, its lines and how much of its functions' bodies lies in functions with
-an `ensures`. The status is 1 where a measure is above its greatest value; --write lowers the values, and never raises
-one. --list names what a measure counts, the greatest first. A clause's length is that of its text joined over its
-lines.
+Prints the lines of each group of crates and of each folder by kind, with how much of the bodies of its functions lies
+in functions with an `ensures`, what else is counted, and the measures. The status is 1 where a measure is above its
+greatest value; --write lowers the values, and never raises one. --list names what a measure counts, the greatest first.
+A clause's length is that of its text joined over its lines.
 """
 
 import argparse
@@ -18,16 +18,22 @@ import sys
 import shared  # noqa: F401
 
 import page
+import style
 import tower
 
 LIMITS = page.TOP / "bench" / "measures.tsv"
-# Characters of a clause, columns of a line of it and of one in Python, lines of a body, and parameters of a function.
+# Characters of a clause, columns of a line of it and of one of a script or in C, lines of a body, and parameters of a
+# function.
 LONG, WIDE, BROAD, TALL, MANY = 200, 100, 120, 40, 7
 # Lines of bodies below which a group may have any share of promises.
 SMALL = 1500
 
 CLAUSE = re.compile(r"\s*(?:requires|ensures)\*?\s")
 FUNCTION = re.compile(r"(\s*)(?:pub(?:\([^)]*\))? )?(?:const |unsafe |extern \"C\" )*fn (\w+)")
+DEFINITION = re.compile(
+    r"\s*(?:abbrev|unfoldable|record|data|def|opaque|inductive)\s+(?:pub\s+)?(\S+)|pub (?:record|data) (\S+)"
+)
+KINDS = ("src", "specs", "proofs", "Python", "C", "shell")
 NO_CONTRACT = re.compile(r" (?:ensures|requires)\b")
 
 
@@ -111,10 +117,13 @@ class House:
 
     def __init__(self):
         self.found = collections.defaultdict(list)
-        self.lines, self.bodies, self.promised = collections.Counter(), collections.Counter(), collections.Counter()
+        self.lines, self.names = collections.defaultdict(collections.Counter), collections.defaultdict(set)
+        self.bodies, self.promised, self.counts = (collections.Counter() for _ in range(3))
         group_of, product = groups(), set(tower.product())
         for crate in tower.crates():
+            self.counts["crates"] += 1
             self.crate(crate, group_of[crate], crate in product)
+            self.texts(crate, group_of[crate])
         self.add("longest chain of crates", max(self.chains().values()), "")
         self.pages()
         self.scripts()
@@ -125,14 +134,26 @@ class House:
     def crate(self, crate, group, is_product):
         for file in sources(crate, "src"):
             lines, name = file.read_text().splitlines(), str(file.relative_to(page.TOP))
-            self.lines[group] += len(lines)
+            self.lines[group]["src"] += len(lines)
             self.clauses(lines, name)
             if is_product:
                 self.add("lines of the longest file", len(lines), name)
                 self.functions(lines, name, group)
 
+    def texts(self, crate, group):
+        """The definitions and the proofs of a crate."""
+        for part in ("specs", "proofs"):
+            for file in sources(crate, part):
+                lines = file.read_text().splitlines()
+                self.lines[group][part] += len(lines)
+                for found in map(DEFINITION.match, lines if part == "specs" else ()):
+                    if found:
+                        self.counts["definitions in specs"] += 1
+                        self.names[found[1] or found[2]].add(file)
+
     def clauses(self, lines, name):
         for clause in clauses(lines):
+            self.counts["clauses"] += 1
             text = " ".join(line.strip() for line in clause)
             if len(text) > LONG:
                 self.add(f"clauses above {LONG} characters", len(text), f"{name}: {text[:WIDE]}")
@@ -142,6 +163,7 @@ class House:
 
     def functions(self, lines, name, group):
         for it in functions(lines):
+            self.counts["functions of the product"] += 1
             self.bodies[group] += it.body
             self.promised[group] += it.body * it.promises
             place = f"{name}: {it.name}"
@@ -166,10 +188,29 @@ class House:
             self.add("words of pages", len((page.TOP / name).read_text().split()), name)
 
     def scripts(self):
-        for name in tracked("*.py"):
-            for number, line in enumerate((page.TOP / name).read_text().splitlines(), 1):
-                if len(line) > BROAD:
-                    self.add(f"lines of Python above {BROAD} columns", len(line), f"{name}:{number}")
+        for language, names in style.sources().items():
+            for name in names:
+                text = (page.TOP / name).read_text()
+                folder = name.partition("/")[0]
+                self.lines[folder if "/" in name else "other files"][language] += text.count("\n")
+                for number, line in enumerate(text.splitlines(), 1):
+                    if len(line) > BROAD:
+                        self.add(f"lines of {language} above {BROAD} columns", len(line), f"{name}:{number}")
+                for lines, place in style.bodies(language, name, text):
+                    if lines > TALL:
+                        self.add(f"functions in {language} above {TALL} lines", lines, place)
+
+    def table(self):
+        """The lines by kind, of each group and of all."""
+        yield f"{'lines':45}" + "".join(f"{kind:>8}" for kind in KINDS) + "  of bodies promised"
+        rows = {**self.lines, "all": sum(self.lines.values(), collections.Counter())}
+        bodies = {**self.bodies, "all": sum(self.bodies.values())}
+        promised = {**self.promised, "all": sum(self.promised.values())}
+        for group, row in rows.items():
+            share = f"{100 * promised[group] // bodies[group]:6} %" if bodies.get(group) else ""
+            yield f"{group[:44]:45}" + "".join(f"{row[kind]:8}" for kind in KINDS) + share
+        more = sum(len(files) > 1 for files in self.names.values())
+        yield ", ".join(f"{count} {name}" for name, count in self.counts.items()) + f", {more} names of several"
 
     def unpromised(self):
         """Of each group of the product that is not small, its per cent of bodies without a promise."""
@@ -212,8 +253,7 @@ def main():
     if given.write:
         write(values, known)
         known = limits()
-    for group, count in house.lines.items():
-        print(f"{count:7} lines  {group}")
+    print(*house.table(), sep="\n")
     above = [name for name, value in values.items() if value > known.get(name, 0)]
     for name, value in sorted(values.items()):
         print(f"{value:7} of at most {known.get(name, 0)}  {name}" + ("  ABOVE" if name in above else ""))

@@ -72,7 +72,7 @@ def room(case):
 
 
 def shown(terminal):
-    """What a terminal shows until nobody has it open any more."""
+    """What a terminal shows until no one has it open any more."""
     pieces = []
     with contextlib.suppress(OSError):
         while piece := os.read(terminal, 4096):

@@ -67,7 +67,7 @@ def screen(shown):
 
 
 def unread(pipe):
-    """The bytes of a pipe that nobody has read yet."""
+    """The bytes of a pipe that no one has read yet."""
     return struct.unpack("i", fcntl.ioctl(pipe, termios.FIONREAD, bytes(4)))[0]
 
 

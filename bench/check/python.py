@@ -46,13 +46,19 @@ equal("the examples", count > 20, True)
 strat = b"-:1:1: `strat` is not the first word of a script line: did you mean `start`?\n"
 equal("lint", postmig.lint(b"strat\n"), strat)
 equal("reason", postmig.reason(b"start"), None)
-equal("explain", postmig.explain(b"0 load 0x10000 8 => done\n"), (False, b"wrong 0 expected segv unmapped\n  line 1, entry 0: 0 load 0x10000 8 => done\n  0x10000 was never mapped\n"))
+WRONG = b"""\
+wrong 0 expected segv unmapped
+  line 1, entry 0: 0 load 0x10000 8 => done
+  0x10000 was never mapped
+"""
+equal("explain", postmig.explain(b"0 load 0x10000 8 => done\n"), (False, WRONG))
 with postmig.World() as world, world.copy() as copy:
     equal("a copy", (world.is_same(copy), world.is_same(world)), (True, True))
     copy.line(b"start")
     equal("another world", (world.is_same(copy), copy.is_same(world)), (False, False))
     equal("would", (world.would(b"start"), copy.would(b"start"), copy.would(b"round")), (None, "Phase", None))
-    equal("counts", (world.counts().phase, copy.counts().phase, copy.counts().epoch), (postmig.IDLE, postmig.PRECOPY, 1))
+    counts = copy.counts()
+    equal("counts", (world.counts().phase, counts.phase, counts.epoch), (postmig.IDLE, postmig.PRECOPY, 1))
     equal("show", copy.show(postmig.WIRES).splitlines()[-1], b"wire 1: advise, epoch 1")
     try:
         copy.line(b"strat")
@@ -81,7 +87,8 @@ with postmig.Source() as source, postmig.Destination() as destination, postmig.F
     source.end()
     destination.take(source.frames())
     equal("done", source.back(destination.frames()).kind, nodes.DID_TAKE_DONE)
-    equal("states", (source.counts().phase, destination.counts().phase), (nodes.SOURCE_RELEASED, nodes.DESTINATION_ENDED))
+    phases = (source.counts().phase, destination.counts().phase)
+    equal("states", phases, (nodes.SOURCE_RELEASED, nodes.DESTINATION_ENDED))
     equal("trace", source.traced().splitlines()[-1], b"back => took done")
     try:
         source.start()

@@ -51,7 +51,7 @@ def limit():
 
 
 def feed(pipe, begin):
-    """Writes to a pipe until nobody reads it any more."""
+    """Writes to a pipe until no one reads it any more."""
     with contextlib.suppress(BrokenPipeError), pipe:
         pipe.write(begin)
         while True:

@@ -1,12 +1,14 @@
 #!/usr/bin/env python3
 """Makes the release of both programs and of the library for C in release/, from their proved builds, or compares them.
 
-python3 bench/check/release.py --write       makes it: of crates/postmig/out/postmig and crates/uffd_audit/out/uffd_audit,
+python3 bench/check/release.py --write       makes it: of crates/postmig/out/postmig and
+                                             crates/uffd_audit/out/uffd_audit,
                                        which rt ci and ./postmig prove leave, and of the library in dist/, which
                                        ./postmig library --build makes. A program that is not built here stays as it is,
                                        if it is of these sources; so with the library, or it is built
 python3 bench/check/release.py --sources     whether it is of these sources, and unpacks to what its checksums say
-python3 bench/check/release.py --check       the same, and whether the proved builds are the programs of the release, byte by
+python3 bench/check/release.py --check       the same, and whether the proved builds are the programs of the release,
+                                             byte by
                                        byte; so with the library, if dist/ has one that was built here. Another kit than
                                        the one that built it may give other bytes, which is said
 
@@ -39,7 +41,7 @@ SOURCES = {
 SUMS, KIT = FOLDER / "SHA256SUMS", FOLDER / "kit"
 DIST = page.TOP / "dist"
 PARTS = ("libpostmig.a", "libpostmig.so", "postmig.h", "postmig_node.h")
-RENEW = "./dev release makes it anew, after rt ci or ./postmig prove"
+RENEW = "./dev release makes it again, after rt ci or ./postmig prove"
 
 
 def packed_file(name):

@@ -1,15 +1,16 @@
 #!/usr/bin/env python3
-"""The form of the sources in C, and names in Python that nothing uses.
+"""The form of the sources in C and in Python, and names in Python that nothing uses.
 
 python3 bench/check/style.py
 
 C is as .clang-format says, where the machine has clang-format of the version whose form it is; that it has none is
-said. In Python each name that a file imports, and each that a function binds by itself, is used there; one that begins
-with _ need not be. The status is 1 otherwise. (measures.py counts wide lines.)
+said. Without it too: the brace of a function has its own line, any other ends its line, and there is no tab. In
+Python each name that a file imports, and each that a function binds by itself, is used there; one that begins with _
+need not be. The status is 1 otherwise. (measures.py counts wide lines and long functions.)
 """
 
 import ast
-import pathlib
+import re
 import shutil
 import subprocess
 
@@ -19,21 +20,27 @@ import page
 
 # Another version of clang-format has a form of its own.
 VERSION = " version 14."
-# Sources of others' forms: what it is embedded in.
-NOT_OURS = ("bench/sources/",)
+# The first line of a function with its brace; and of a statement that has one.
+HEAD_OF_FUNCTION = re.compile(r"\w[^#=;]*\) \{$")
+STATEMENT = re.compile(r"\s+(\} )?(if|for|while|switch|do|else)\b.*[^;]$")
+# Sources of others' forms: what it is embedded in. The headers of the library are sources of its release, and keep
+# their lines until it is made again.
+NOT_OURS = ("bench/sources/", "crates/postmig_c/include/")
 
 
 def tracked():
     listed = subprocess.run(["git", "ls-files"], cwd=page.TOP, capture_output=True, text=True, check=True)
-    return [it for it in listed.stdout.splitlines() if (page.TOP / it).is_file() and not it.startswith(NOT_OURS)]
+    return [it for it in listed.stdout.splitlines() if (page.TOP / it).is_file()]
 
 
-def is_python(name):
+def language_of(name):
+    """Python, C or shell, by the suffix or by the first line; None of any other file."""
     path = page.TOP / name
     if path.suffix:
-        return path.suffix == ".py"
+        return {".py": "Python", ".c": "C", ".h": "C", ".sh": "shell"}.get(path.suffix)
     with path.open("rb") as file:
-        return file.readline(80).startswith(b"#!") and b"python" in path.read_bytes()[:80]
+        first = file.readline(80)
+    return None if not first.startswith(b"#!") else "Python" if b"python" in first else "shell"
 
 
 def used_in(tree):
@@ -76,6 +83,35 @@ def faults_of(name):
         )
 
 
+def braces(name):
+    """Braces that are where the style of the kernel has none."""
+    lines = (page.TOP / name).read_text().splitlines()
+    for number, (above, line) in enumerate(zip(["", *lines], lines), 1):
+        if "\t" in line:
+            yield f"{name}:{number}: a tab"
+        if HEAD_OF_FUNCTION.match(line) or line.strip() == "{" and STATEMENT.match(above):
+            yield f"{name}:{number}: a brace in another place than .clang-format has it"
+
+
+def sources():
+    """What git has in Python, in C and for a shell."""
+    found = {"Python": [], "C": [], "shell": []}
+    for name in tracked():
+        found.get(language_of(name), []).append(name)
+    return found
+
+
+def bodies(language, name, text):
+    """The lines of each function's body in Python or C, with its place."""
+    if language == "Python":
+        for it in ast.walk(ast.parse(text)):
+            if isinstance(it, (ast.FunctionDef, ast.AsyncFunctionDef)):
+                yield it.end_lineno - it.body[0].lineno + 1, f"{name}: {it.name}"
+    elif language == "C":
+        for found in re.finditer(r"^([^\n]*)\n\{\n(.*?)^\}$", text, re.M | re.S):
+            yield found[2].count("\n"), f"{name}: {found[1]}"
+
+
 def c_faults(names):
     if not (page.TOP / ".clang-format").exists():
         return []
@@ -93,11 +129,10 @@ def c_faults(names):
 
 def main():
     page.option()
-    names = tracked()
-    python, c = (
-        [it for it in names if is_python(it)], [it for it in names if pathlib.PurePath(it).suffix in (".c", ".h")]
-    )
-    faults = [fault for name in python for fault in faults_of(name)] + c_faults(c)
+    python, c, _ = sources().values()
+    c = [it for it in c if not it.startswith(NOT_OURS)]
+    faults = [fault for name in python for fault in faults_of(name)]
+    faults += [fault for name in c for fault in braces(name)] + c_faults(c)
     page.end(faults, f"form of {len(python)} sources in Python and {len(c)} in C")
 
 

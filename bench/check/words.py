@@ -96,7 +96,8 @@ def c_comments(text):
 
 
 def scripts():
-    """The scripts, and the sources in C, that git has outside of crates/, but for this one, whose words are the rules."""
+    """The scripts, and the sources in C, that git has outside of crates/, but for this one, whose words are the
+    rules."""
     listed = subprocess.run(["git", "ls-files"], cwd=page.TOP, capture_output=True, text=True, check=True)
     for name in listed.stdout.splitlines():
         file = page.TOP / name

@@ -159,6 +159,20 @@ def in_python(loads):
             or not verdict.startswith(b"ok ")
         ):
             sys.exit(f"embed: Python: {script.stem} differs")
+    frames_in_python(postmig)
+    asked_in_python(postmig)
+    with postmig.World() as world:
+        world.line(b"cpu 0 mmap 65536 rw")
+        begun = time.perf_counter()
+        for _ in range(loads // 10):
+            world.line(b"cpu 0 load 0x10000 8")
+        print(
+            f"Python: {len(SCRIPTS)} scripts and a stream agree; {loads // 10} loads: "
+            f"{time.perf_counter() - begun:.3f} s"
+        )
+
+
+def frames_in_python(postmig):
     text = stream()
     with postmig.Frames() as frames:
         got = [
@@ -166,11 +180,12 @@ def in_python(loads):
             for at in range(0, len(text), 777)
             for numbers, part in frames.feed(text[at : at + 777])
         ]
-    if (
-        b"".join(part for *_, part in got) != text
-        or [(tag, addr, count) for tag, addr, count, _ in got][1:3] != [(3, 0x10000, 1), (8, 0x20000, 2)]
-    ):
+    numbers = [(tag, addr, count) for tag, addr, count, _ in got]
+    if b"".join(part for *_, part in got) != text or numbers[1:3] != [(3, 0x10000, 1), (8, 0x20000, 2)]:
         sys.exit("embed: Python: the frames differ")
+
+
+def asked_in_python(postmig):
     with postmig.World() as world, world.copy() as copy:
         copy.line(b"start")
         asked = [world.would(b"switch"), copy.would(b"switch")]
@@ -181,33 +196,12 @@ def in_python(loads):
         postmig.reason(b"strat"),
         postmig.reason(b"start", transcript=True)[0],
         postmig.lint(b"start\nround 1\n"),
+        postmig.explain(b"0 load 0x0 8 => value 0x0\n"),
+        postmig.explain(b"0 load 0x0 8 => done\n", every=True)[0],
     ]
-    asked += [
-        postmig.explain(b"0 load 0x0 8 => value 0x0\n"), postmig.explain(b"0 load 0x0 8 => done\n", every=True)[0]
-    ]
-    wanted = [
-        "Phase",
-        None,
-        b"channel lost, epoch 1",
-        [b"pages source 0 dest 0"],
-        None,
-        NEAR,
-        1,
-        EXTRA,
-        (False, UNMAPPED),
-        False,
-    ]
-    if asked != wanted:
+    wires, pages = b"channel lost, epoch 1", [b"pages source 0 dest 0"]
+    if asked != ["Phase", None, wires, pages, None, NEAR, 1, EXTRA, (False, UNMAPPED), False]:
         sys.exit(f"embed: Python: asked: {asked}")
-    with postmig.World() as world:
-        world.line(b"cpu 0 mmap 65536 rw")
-        begun = time.perf_counter()
-        for _ in range(loads // 10):
-            world.line(b"cpu 0 load 0x10000 8")
-        print(
-            f"Python: {len(SCRIPTS)} scripts and a stream agree; {loads // 10} loads: "
-            f"{time.perf_counter() - begun:.3f} s"
-        )
 
 
 def compare_fails(differs, script, answers):

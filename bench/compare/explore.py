@@ -263,7 +263,7 @@ def texts_of(file):
             yield text
 
 
-def main():
+def arguments():
     asked = argparse.ArgumentParser(description=__doc__, formatter_class=argparse.RawDescriptionHelpFormatter)
     asked.add_argument("seeds", nargs="?", type=int, default=20)
     asked.add_argument("--first", type=int, default=1)
@@ -274,27 +274,27 @@ def main():
     asked.add_argument("--least", type=int, default=0)
     for name in ("lines", "cpus", "pages"):
         asked.add_argument(f"--{name}", type=int)
-    given = asked.parse_args()
-    options = [
-        word
-        for name in ("lines", "cpus", "pages")
-        if getattr(given, name)
-        for word in (f"--{name}", str(getattr(given, name)))
-    ]
-    options += ["--finish"] * given.finish + ["--sweep"] * given.sweep
+    return asked.parse_args()
+
+
+def options_of(given):
+    """The options that go to each run of the program."""
+    numbers = [name for name in ("lines", "cpus", "pages") if getattr(given, name)]
+    words = [word for name in numbers for word in (f"--{name}", str(getattr(given, name)))]
+    return words + ["--finish"] * given.finish + ["--sweep"] * given.sweep
+
+
+def courses(given, totals):
+    """Adds the course of each script to the totals of its profile. Returns how many were wrong."""
+    options, wrong = options_of(given), 0
 
     def one(case):
         text = case if given.scripts else explored(given.program, *case, options)
         judge(given.program, text)
         return argument(text, "profile"), counted(text)
 
-    cases = (
-        texts_of(given.scripts)
-        if given.scripts
-        else [(seed, profile) for profile in PROFILES for seed in range(given.first, given.first + given.seeds)]
-    )
-    totals = collections.defaultdict(Course)
-    wrong = 0
+    seeds = range(given.first, given.first + given.seeds)
+    cases = texts_of(given.scripts) if given.scripts else [(seed, name) for name in PROFILES for seed in seeds]
     with concurrent.futures.ThreadPoolExecutor(os.cpu_count()) as pool:
         for future in [pool.submit(one, case) for case in cases]:
             try:
@@ -303,6 +303,12 @@ def main():
             except ValueError as error:
                 wrong += 1
                 print(error, file=sys.stderr)
+    return wrong
+
+
+def main():
+    given, totals = arguments(), collections.defaultdict(Course)
+    wrong = courses(given, totals)
     text = "\n".join(tables(totals))
     print(text)
     for name in too_few(totals, given.least):

@@ -166,7 +166,7 @@ def in_terminal(text):
 
 
 def closed_pipe():
-    """A pipe that nobody reads."""
+    """A pipe that no one reads."""
     source, sink = os.pipe()
     os.close(source)
     return sink
@@ -233,7 +233,7 @@ def outputs(folder):
         yield Case("a full device, /dev/full", word, given, lambda: opened("/dev/full", os.O_WRONLY), (2, 0, WRITE))
         yield Case("closed", word, given, lambda: -1, (2, 0, WRITE))
         yield Case("open for reading only", word, given, lambda: opened("/dev/null"), (2, 0, WRITE))
-        yield Case("a pipe that nobody reads", word, given, closed_pipe, (2, 0, WRITE))
+        yield Case("a pipe that no one reads", word, given, closed_pipe, (2, 0, WRITE))
 
 
 def streams(folder):
@@ -252,7 +252,7 @@ def streams(folder):
         "output: a full device, /dev/full", "frames", given, lambda: opened("/dev/full", os.O_WRONLY), (2, 0, WRITE)
     )
     yield Case("output: closed", "frames", given, lambda: -1, (2, 0, WRITE))
-    yield Case("output: a pipe that nobody reads", "frames", given, closed_pipe, (2, 0, WRITE))
+    yield Case("output: a pipe that no one reads", "frames", given, closed_pipe, (2, 0, WRITE))
 
 
 def tried(case):

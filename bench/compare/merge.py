@@ -178,7 +178,7 @@ def replace_all(program, kept, orders, counts):
 
 
 def by_whom(program, make, folder):
-    """By whom a fault is named: `merge`, `test`, or nobody, None."""
+    """By whom a fault is named: `merge`, `test`, or no one, None."""
     try:
         lines = make()
     except (merging.NoOrder, merging.Unreadable):
@@ -210,7 +210,7 @@ def plant_all(program, kept, runs):
              ("in an order", [(name, None, plant) for name, plant in planted_traces.SCRIPTS]))
     with tempfile.TemporaryDirectory() as folder:
         for kind, plants in kinds:
-            print(f"{kind:47} runs  merge   test  nobody")
+            print(f"{kind:47} runs  merge   test  no one")
             for name, side, plant in plants:
                 found = [
                     (who, by_whom(program, make, folder))

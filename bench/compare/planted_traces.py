@@ -77,7 +77,7 @@ def acted_early(lines, draw):
 
 
 def retried_early(lines, draw):
-    """A processor tries again before the act that wakes it: it slept on the page since nobody acted on that."""
+    """A processor tries again before the act that wakes it: it slept on the page since no one acted on that."""
     asleep = {}
     for at, line in enumerate(lines[:-1]):
         words = line.split()
@@ -172,7 +172,7 @@ TRACES = (
     ("a Resume is not taken", DEST, left_out("=> took resume", "^deliver")),
     ("the epoch of a Resume is wrong", DEST, changed("^# epoch ([0-9]+)", more)),
     ("the epoch of a push is wrong", SOURCE, changed("^u?push 0x[0-9a-f]+ ([0-9]+) => sent", more)),
-    ("a request is taken that nobody has made", SOURCE, changed("^back => took request (0x[0-9a-f]+)", more)),
+    ("a request is taken that no one has made", SOURCE, changed("^back => took request (0x[0-9a-f]+)", more)),
     ("the first map call is left out", SOURCE, lambda lines, draw: lines[1:] if " mmap " in lines[0] else None),
     ("an event is left unread", DEST, left_out("^dread => read (remove|unmap|remap)", "^(install|dact) =>")),
 )

@@ -123,7 +123,7 @@ class Maker(Drawing):
 # Comparing
 
 
-class Seen:
+class Tally:
     """What was seen in some streams."""
 
     def __init__(self):
@@ -146,16 +146,16 @@ class Seen:
 
 def compare(job):
     program, seed, numbers = job
-    seen = Seen()
+    tally = Tally()
     for number in numbers:
         maker = Maker(seed, number)
         stream = maker.stream()
         wanted = Wanted(stream, maker.cpus)
-        seen.add(number, stream, wanted)
+        tally.add(number, stream, wanted)
         ended = run([program, "frames", "--cpus", str(maker.cpus)], stream)
         if (ended.stdout, ended.stderr, ended.returncode) != (wanted.output, wanted.error, wanted.status):
-            seen.wrong.append(number)
-    return seen
+            tally.wrong.append(number)
+    return tally
 
 
 # Memory
@@ -248,9 +248,9 @@ def memory(program, seed, count):
 # The table
 
 
-def table(seen):
+def table(tally):
     """Prints what was seen, and answers whether it was often enough."""
-    counts, right = seen.counts, not seen.wrong
+    counts, right = tally.counts, not tally.wrong
     print("| | |\n|---|---|")
     for name in (
         "streams", "version 1", "version 2", "past a Package", "bytes", "bytes of frames",
@@ -267,8 +267,8 @@ def table(seen):
             f"{counts[name]:,} |"
         )
         right &= counts[name] >= OFTEN
-    print(f"| streams that differ | {len(seen.wrong):,} |")
-    for number in seen.wrong[:10]:
+    print(f"| streams that differ | {len(tally.wrong):,} |")
+    for number in tally.wrong[:10]:
         print(f"differs: stream {number}")
     return right
 
@@ -285,12 +285,12 @@ def main():
     require(program)
     numbers = range(options.streams)
     jobs = [(program, options.seed, numbers[at : at + 500]) for at in range(0, len(numbers), 500)]
-    seen = Seen()
+    tally = Tally()
     with multiprocessing.Pool(options.jobs) as pool:
         for part in pool.imap_unordered(compare, jobs):
-            seen.counts.update(part.counts)
-            seen.wrong += part.wrong
-    right = table(seen)
+            tally.counts.update(part.counts)
+            tally.wrong += part.wrong
+    right = table(tally)
     if not options.no_memory:
         right &= memory(program, options.seed, 500)
     sys.exit(0 if right else 1)

@@ -65,13 +65,14 @@ static void agree(uint32_t status, const uint8_t *answer, size_t count)
 static bool same(postmig_handle *world, postmig_handle *other)
 {
     bool is_same, as_well;
-    WANT(postmig_world_is_same(world, other, &is_same) == POSTMIG_OK && postmig_world_is_same(other, world, &as_well) == POSTMIG_OK && is_same == as_well);
+    WANT(postmig_world_is_same(world, other, &is_same) == POSTMIG_OK &&
+         postmig_world_is_same(other, world, &as_well) == POSTMIG_OK && is_same == as_well);
     return is_same;
 }
 
-/* Before each line of a script: a question changes nothing, and the line has the same answer in the world and in a copy of it, which is that
-   of the question. The copy is the same world before the line, after a line that is refused, and once both have done it. Returns how many
-   lines were refused. */
+/* Before each line of a script: a question changes nothing, and the line has the same answer in the world and in a
+   copy of it, which is that of the question. The copy is the same world before the line, after a line that is
+   refused, and once both have done it. Returns how many lines were refused. */
 static int each_line(const char *path)
 {
     size_t length;
@@ -86,14 +87,17 @@ static int each_line(const char *path)
         uint32_t status = postmig_world_would(&world, line, count);
         /* what the copy had before is freed */
         WANT(postmig_world_copy(&world, false, &copy) == POSTMIG_OK);
-        WANT(postmig_world_answer(&world, out, ROOM, &written) == POSTMIG_OK && written == was && !memcmp(out, before, was));
+        WANT(postmig_world_answer(&world, out, ROOM, &written) == POSTMIG_OK && written == was &&
+             !memcmp(out, before, was));
         WANT(postmig_world_answer(&copy, out, ROOM, &written) == POSTMIG_OK && !written && same(&world, &copy));
-        WANT(postmig_world_counts(&world, &counts) == POSTMIG_OK && postmig_world_line(&copy, line, count, out, ROOM, &written) == POSTMIG_OK);
+        WANT(postmig_world_counts(&world, &counts) == POSTMIG_OK &&
+             postmig_world_line(&copy, line, count, out, ROOM, &written) == POSTMIG_OK);
         WANT(postmig_world_counts(&world, &copied) == POSTMIG_OK && !memcmp(&counts, &copied, sizeof counts));
         agree(status, out, written);
         refused += status != POSTMIG_OK;
         WANT(status == POSTMIG_OK || same(&world, &copy));
-        WANT(postmig_world_line(&world, line, count, other, ROOM, &more) == POSTMIG_OK && more == written && !memcmp(other, out, more));
+        WANT(postmig_world_line(&world, line, count, other, ROOM, &more) == POSTMIG_OK && more == written &&
+             !memcmp(other, out, more));
         WANT(same(&world, &copy));
         free(line);
     }
@@ -110,29 +114,38 @@ static void worlds(void)
     postmig_handle world = POSTMIG_NONE, copy = POSTMIG_NONE;
     postmig_frame frame;
     bool is_same;
-    WANT(postmig_world_copy(&world, false, &copy) == POSTMIG_NOT_OPEN && !copy.at && postmig_world_would(&world, TEXT("start")) == POSTMIG_NOT_OPEN);
+    WANT(postmig_world_copy(&world, false, &copy) == POSTMIG_NOT_OPEN && !copy.at &&
+         postmig_world_would(&world, TEXT("start")) == POSTMIG_NOT_OPEN);
     WANT(postmig_world_is_same(&world, &copy, &is_same) == POSTMIG_NOT_OPEN && !world.at && !copy.at);
     WANT(postmig_frames_new(&world) == POSTMIG_OK && postmig_world_new(1, false, &copy) == POSTMIG_OK);
-    WANT(postmig_world_is_same(&world, &copy, &is_same) == POSTMIG_NOT_OPEN && postmig_world_is_same(&copy, &world, &is_same) == POSTMIG_NOT_OPEN);
+    WANT(postmig_world_is_same(&world, &copy, &is_same) == POSTMIG_NOT_OPEN &&
+         postmig_world_is_same(&copy, &world, &is_same) == POSTMIG_NOT_OPEN);
     WANT(postmig_world_line(&copy, TEXT("start"), out, ROOM, &written) == POSTMIG_OK);
     /* a decoder is no world; the handle that was to have its copy keeps what it has */
-    WANT(postmig_world_copy(&world, false, &copy) == POSTMIG_NOT_OPEN && postmig_world_would(&world, TEXT("start")) == POSTMIG_NOT_OPEN);
+    WANT(postmig_world_copy(&world, false, &copy) == POSTMIG_NOT_OPEN &&
+         postmig_world_would(&world, TEXT("start")) == POSTMIG_NOT_OPEN);
     WANT(postmig_frames_next(&world, &frame, out, ROOM, &written) == POSTMIG_NO_FRAME);
     WANT(postmig_world_answer(&copy, out, ROOM, &written) == POSTMIG_OK && is(out, written, "started epoch 1\n"));
     /* a world replaces the decoder */
-    WANT(postmig_world_copy(&copy, false, &world) == POSTMIG_OK && postmig_world_would(&world, TEXT("start")) == POSTMIG_REFUSED_PHASE);
+    WANT(postmig_world_copy(&copy, false, &world) == POSTMIG_OK &&
+         postmig_world_would(&world, TEXT("start")) == POSTMIG_REFUSED_PHASE);
     WANT(postmig_world_would(&world, TEXT("")) == POSTMIG_OK && postmig_world_would(&world, TEXT("# x")) == POSTMIG_OK);
-    WANT(postmig_world_would(&world, TEXT("progress")) == POSTMIG_OK && postmig_world_would(&world, TEXT("switch")) == POSTMIG_OK);
+    WANT(postmig_world_would(&world, TEXT("progress")) == POSTMIG_OK &&
+         postmig_world_would(&world, TEXT("switch")) == POSTMIG_OK);
     WANT(postmig_world_would(&world, TEXT("cpu 1 munmap 0x10000 4096")) == POSTMIG_REFUSED_NO_CPU);
-    WANT(postmig_world_would(&world, TEXT("push 0x10000")) == POSTMIG_REFUSED_PHASE && postmig_world_would(&world, TEXT("strat")) == POSTMIG_NOT_A_LINE);
+    WANT(postmig_world_would(&world, TEXT("push 0x10000")) == POSTMIG_REFUSED_PHASE &&
+         postmig_world_would(&world, TEXT("strat")) == POSTMIG_NOT_A_LINE);
     WANT(postmig_world_would(&world, TEXT("0 load 0x10000 8 => value 0x0")) == POSTMIG_NOT_A_LINE);
     WANT(postmig_world_answer(&copy, out, ROOM, &written) == POSTMIG_OK && is(out, written, "started epoch 1\n"));
     /* a copy that prints its transcript, of a world that prints outcomes, and the other way */
-    WANT(postmig_world_copy(&world, true, &copy) == POSTMIG_OK && postmig_world_copy(&copy, false, &world) == POSTMIG_OK);
-    WANT(postmig_world_line(&copy, TEXT("cpu 0 mmap 4096 rw"), out, ROOM, &written) == POSTMIG_OK && is(out, written, "0 mmap 4096 rw => at 0x10000\n"));
+    WANT(postmig_world_copy(&world, true, &copy) == POSTMIG_OK &&
+         postmig_world_copy(&copy, false, &world) == POSTMIG_OK);
+    WANT(postmig_world_line(&copy, TEXT("cpu 0 mmap 4096 rw"), out, ROOM, &written) == POSTMIG_OK &&
+         is(out, written, "0 mmap 4096 rw => at 0x10000\n"));
     /* a copy that has done a command is another world, whatever its lines print */
     WANT(!same(&world, &copy));
-    WANT(postmig_world_line(&world, TEXT("cpu 0 mmap 4096 rw"), out, ROOM, &written) == POSTMIG_OK && is(out, written, "cpu 0 at 0x10000\n"));
+    WANT(postmig_world_line(&world, TEXT("cpu 0 mmap 4096 rw"), out, ROOM, &written) == POSTMIG_OK &&
+         is(out, written, "cpu 0 at 0x10000\n"));
     WANT(same(&world, &copy));
     postmig_free(&world);
     postmig_free(&copy);
@@ -144,6 +157,8 @@ int main(int argc, char **argv)
     worlds();
     for (int i = 1; i < argc; i++)
         refused += each_line(argv[i]);
-    printf("%d scripts: each line has the answer that was asked for before it, and the same in a copy of its world; %d are refused\n", argc - 1, refused);
+    printf("%d scripts: each line has the answer that was asked for before it, and the same in a copy of its world; %d "
+           "are refused\n",
+           argc - 1, refused);
     return 0;
 }

@@ -1,7 +1,8 @@
 /* What the library says of lines, transcripts and worlds, in the words of the program.
 
    inside [NAME.script]..         tests it
-   inside show LINES WHAT NAME    writes what a world holds after this number of lines of a script, by the number of the question
+   inside show LINES WHAT NAME    writes what a world holds after this number of lines of a script, by the number of
+                                  the question
    inside lint|entries NAME       writes the wrong lines of a script, or of a transcript
    inside explain|all NAME        writes what is wrong with a transcript: the first entry, or all */
 #define _GNU_SOURCE
@@ -47,7 +48,8 @@ static size_t line_length(const uint8_t *script, size_t length, size_t at)
     return end ? (size_t)(end - (script + at)) : length - at;
 }
 
-/* A line that is wrong has its reason in the listing of it as a whole text; of one that is right nothing is listed. Returns whether it is wrong. */
+/* A line that is wrong has its reason in the listing of it as a whole text; of one that is right nothing is listed.
+   Returns whether it is wrong. */
 static bool one_line(bool transcript, const uint8_t *bytes, size_t length)
 {
     uint8_t *line = malloc(length + !length);
@@ -68,8 +70,10 @@ static bool one_line(bool transcript, const uint8_t *bytes, size_t length)
         size_t needed = written;
         uint8_t *tight = malloc(needed);
         WANT(tight);
-        WANT(postmig_line_reason(transcript, line, length, &column, tight, needed - 1, &written) == POSTMIG_NO_ROOM && written == needed);
-        WANT(postmig_line_reason(transcript, line, length, &column, tight, needed, &written) == POSTMIG_NOT_A_LINE && !memcmp(tight, out, needed));
+        WANT(postmig_line_reason(transcript, line, length, &column, tight, needed - 1, &written) == POSTMIG_NO_ROOM &&
+             written == needed);
+        WANT(postmig_line_reason(transcript, line, length, &column, tight, needed, &written) == POSTMIG_NOT_A_LINE &&
+             !memcmp(tight, out, needed));
         free(tight);
     }
     free(line);
@@ -81,19 +85,24 @@ static void lines(void)
     char longest[257];
     memset(longest, ' ', sizeof longest);
     memcpy(longest, "start", 5);
-    WANT(postmig_line_reason(false, TEXT("cpu 0 lod 0x10000 8"), &column, out, ROOM, &written) == POSTMIG_NOT_A_LINE && column == 7);
+    WANT(postmig_line_reason(false, TEXT("cpu 0 lod 0x10000 8"), &column, out, ROOM, &written) == POSTMIG_NOT_A_LINE &&
+         column == 7);
     WANT(is("`lod` is not a command of a processor: did you mean `load`?"));
     WANT(postmig_line_reason(false, NULL, 0, &column, NULL, 0, &written) == POSTMIG_OK && !written);
-    WANT(!one_line(false, TEXT("start")) && one_line(true, TEXT("start")) && !one_line(false, TEXT("# x")) && !one_line(false, (uint8_t *)longest, 256));
-    WANT(!one_line(true, TEXT("0 load 0x10000 8 => value 0x0")) && one_line(false, TEXT("0 load 0x10000 8 => value 0x0")));
-    WANT(postmig_line_reason(false, (uint8_t *)longest, 257, &column, out, ROOM, &written) == POSTMIG_NOT_A_LINE && column == 257);
+    WANT(!one_line(false, TEXT("start")) && one_line(true, TEXT("start")) && !one_line(false, TEXT("# x")) &&
+         !one_line(false, (uint8_t *)longest, 256));
+    WANT(!one_line(true, TEXT("0 load 0x10000 8 => value 0x0")) &&
+         one_line(false, TEXT("0 load 0x10000 8 => value 0x0")));
+    WANT(postmig_line_reason(false, (uint8_t *)longest, 257, &column, out, ROOM, &written) == POSTMIG_NOT_A_LINE &&
+         column == 257);
     WANT(is("a line has at most 256 bytes, and this one has 257"));
     const char *script = "strat\nstart\n\ncpu 0 lod 0x10000 8";
     const char *listing = "-:1:1: `strat` is not the first word of a script line: did you mean `start`?\n"
                           "-:4:7: `lod` is not a command of a processor: did you mean `load`?\n";
     WANT(postmig_lint(false, TEXT(script), &clean, out, ROOM, &written) == POSTMIG_OK && !clean && is(listing));
     WANT(postmig_lint(false, TEXT(script), &clean, NULL, 0, &written) == POSTMIG_NO_ROOM && written == strlen(listing));
-    WANT(postmig_lint(true, TEXT("0 load 0x10000 8 => value 0x0\n"), &clean, out, ROOM, &written) == POSTMIG_OK && clean && !written);
+    WANT(postmig_lint(true, TEXT("0 load 0x10000 8 => value 0x0\n"), &clean, out, ROOM, &written) == POSTMIG_OK &&
+         clean && !written);
     WANT(postmig_lint(false, NULL, 0, &clean, NULL, 0, &written) == POSTMIG_OK && clean && !written);
 }
 
@@ -103,11 +112,13 @@ static void worlds(void)
     WANT(postmig_world_show(&world, POSTMIG_ALL, 0, UINT64_MAX, out, ROOM, &written) == POSTMIG_NOT_OPEN && !world.at);
     WANT(postmig_frames_new(&world) == POSTMIG_OK);
     WANT(postmig_world_show(&world, POSTMIG_ALL, 0, UINT64_MAX, out, ROOM, &written) == POSTMIG_NOT_OPEN && world.at);
-    WANT(postmig_world_new(1, false, &world) == POSTMIG_OK && postmig_world_line(&world, TEXT("cpu 0 mmap 8192 r"), out, ROOM, &written) == POSTMIG_OK);
+    WANT(postmig_world_new(1, false, &world) == POSTMIG_OK &&
+         postmig_world_line(&world, TEXT("cpu 0 mmap 8192 r"), out, ROOM, &written) == POSTMIG_OK);
     WANT(postmig_world_show(&world, 6, 0, UINT64_MAX, out, ROOM, &written) == POSTMIG_NO_QUESTION);
     WANT(postmig_world_show(&world, UINT32_MAX, 0, UINT64_MAX, out, ROOM, &written) == POSTMIG_NO_QUESTION);
     WANT(postmig_world_show(&world, POSTMIG_PAGES, 0x11fff, 0x12000, out, ROOM, &written) == POSTMIG_OK);
-    WANT(is("progress phase idle rounds 0 sent 0 left 0 installed 0 dropped 0 faults 0\npages source 1 dest 0\nsource page 0x11000: r, missing\n"));
+    WANT(is("progress phase idle rounds 0 sent 0 left 0 installed 0 dropped 0 faults 0\npages source 1 dest 0\nsource "
+            "page 0x11000: r, missing\n"));
     WANT(postmig_world_show(&world, POSTMIG_PAGES, 0x11000, 0x11000, out, ROOM, &written) == POSTMIG_OK);
     WANT(is("progress phase idle rounds 0 sent 0 left 0 installed 0 dropped 0 faults 0\npages source 0 dest 0\n"));
     WANT(postmig_world_show(&world, POSTMIG_CPUS, 0, 0, NULL, 0, &written) == POSTMIG_NO_ROOM && written > 0);
@@ -115,19 +126,24 @@ static void worlds(void)
     postmig_free(&world);
 }
 
-/* A world's texts begin with its progress, and that of all is the others, one after the other. Nothing of the world changes. */
+/* A world's texts begin with its progress, and that of all is the others, one after the other. Nothing of the world
+   changes. */
 static void shown(postmig_handle *world)
 {
     static uint8_t progress[256], answer[ROOM];
     postmig_handle copy = POSTMIG_NONE;
     postmig_counts counts, after;
     size_t head, was, end;
-    WANT(postmig_world_copy(world, false, &copy) == POSTMIG_OK && postmig_world_line(&copy, TEXT("progress"), progress, sizeof progress, &head) == POSTMIG_OK);
-    WANT(postmig_world_counts(world, &counts) == POSTMIG_OK && postmig_world_answer(world, answer, ROOM, &was) == POSTMIG_OK);
-    WANT(postmig_world_show(world, POSTMIG_ALL, 0, UINT64_MAX, other, ROOM, &more) == POSTMIG_OK && more > head && !memcmp(other, progress, head));
+    WANT(postmig_world_copy(world, false, &copy) == POSTMIG_OK &&
+         postmig_world_line(&copy, TEXT("progress"), progress, sizeof progress, &head) == POSTMIG_OK);
+    WANT(postmig_world_counts(world, &counts) == POSTMIG_OK &&
+         postmig_world_answer(world, answer, ROOM, &was) == POSTMIG_OK);
+    WANT(postmig_world_show(world, POSTMIG_ALL, 0, UINT64_MAX, other, ROOM, &more) == POSTMIG_OK && more > head &&
+         !memcmp(other, progress, head));
     end = head;
     for (uint32_t what = POSTMIG_CPUS; what < POSTMIG_ALL; what++) {
-        WANT(postmig_world_show(world, what, 0, UINT64_MAX, out, ROOM, &written) == POSTMIG_OK && written >= head && !memcmp(out, progress, head));
+        WANT(postmig_world_show(world, what, 0, UINT64_MAX, out, ROOM, &written) == POSTMIG_OK && written >= head &&
+             !memcmp(out, progress, head));
         WANT(written - head <= more - end && !memcmp(out + head, other + end, written - head));
         end += written - head;
     }
@@ -137,8 +153,8 @@ static void shown(postmig_handle *world)
     postmig_free(&copy);
 }
 
-/* Each line of a script is right, and what is left of it when its end is cut off is right or has a reason; its world is looked at after each.
-   Returns how many such parts are wrong. */
+/* Each line of a script is right, and what is left of it when its end is cut off is right or has a reason; its
+   world is looked at after each. Returns how many such parts are wrong. */
 static int each_line(const uint8_t *script, size_t length)
 {
     postmig_handle world = POSTMIG_NONE;
@@ -172,10 +188,12 @@ static void explained(bool all, const uint8_t *transcript, size_t length)
     }
     WANT(firsts == 1 || (all && firsts > 1));
     size_t needed = written;
-    WANT(postmig_explain(all, transcript, length, &flat, out, needed - 1, &written) == POSTMIG_NO_ROOM && written == needed);
+    WANT(postmig_explain(all, transcript, length, &flat, out, needed - 1, &written) == POSTMIG_NO_ROOM &&
+         written == needed);
 }
 
-/* The transcript of a script is flat, and with another reply to one load it is not. Returns how many loads there are. */
+/* The transcript of a script is flat, and with another reply to one load it is not. Returns how many loads there
+   are. */
 static int replies(const uint8_t *script, size_t length)
 {
     static uint8_t text[ROOM];
@@ -204,7 +222,8 @@ static int replies(const uint8_t *script, size_t length)
         uint8_t *arrow = memmem(transcript + at, part, "=>", 2);
         *arrow = ' ';
         WANT(postmig_check(transcript, count, &flat, out, ROOM, &more) == POSTMIG_NOT_A_LINE);
-        WANT(postmig_explain(true, transcript, count, &flat, out, ROOM, &written) == POSTMIG_NOT_A_LINE && written == more);
+        WANT(postmig_explain(true, transcript, count, &flat, out, ROOM, &written) == POSTMIG_NOT_A_LINE &&
+             written == more);
         *arrow = '=';
     }
     free(transcript);
@@ -259,7 +278,9 @@ int main(int argc, char **argv)
         loads += replies(script, length);
         free(script);
     }
-    printf("%d scripts: %d parts of lines are wrong, each with the reason of its listing; each world is shown after each line; ", argc - 1, wrong);
+    printf("%d scripts: %d parts of lines are wrong, each with the reason of its listing; each world is shown after "
+           "each line; ",
+           argc - 1, wrong);
     printf("%d other replies to loads are explained\n", loads);
     return 0;
 }

@@ -1,8 +1,9 @@
-/* A whole migration by a source and a destination of their own, with faults at both, an event, an urgent page, and a channel that breaks;
-   each export is called. Then once more with each allocation refused in turn: the call answers POSTMIG_NO_MEMORY and changed nothing, so
-   that the same call made again succeeds, and nothing leaks. Both nodes have a trace, whose lines are taken after each call: they are the
-   same each time. With a word after it, the program writes them instead, as one script with its answers, for postmig test. Linked with
-   --wrap of malloc, realloc and free.
+/* A whole migration by a source and a destination of their own, with faults at both, an event, an urgent page, and
+   a channel that breaks; each export is called. Then once more with each allocation refused in turn: the call
+   answers POSTMIG_NO_MEMORY and changed nothing, so that the same call made again succeeds, and nothing leaks. Both
+   nodes have a trace, whose lines are taken after each call: they are the same each time. With a word after it, the
+   program writes them instead, as one script with its answers, for postmig test. Linked with --wrap of malloc,
+   realloc and free.
 
    nodes [script] */
 #include <stdio.h>
@@ -66,9 +67,7 @@ void __wrap_free(void *block)
     __real_free(block);
 }
 
-enum { BASE = 0x100000,
-       PAGES = 8,
-       ROOM = 4096 };
+enum { BASE = 0x100000, PAGES = 8, ROOM = 4096 };
 static postmig_handle source, destination;
 static postmig_effect effect;
 static uint8_t text[ROOM];
@@ -84,7 +83,8 @@ static void take_lines_of(postmig_handle *node)
     size_t taken;
     do {
         uint32_t status;
-        while ((status = postmig_node_trace_take(node, script + script_length, sizeof script - script_length, &taken)) == POSTMIG_NO_MEMORY)
+        while ((status = postmig_node_trace_take(node, script + script_length, sizeof script - script_length,
+                                                 &taken)) == POSTMIG_NO_MEMORY)
             WANT(refused);
         WANT(status == POSTMIG_OK);
         script_length += taken;
@@ -133,15 +133,8 @@ static void deliver_back(void)
     }
 }
 
-static void not_open(void)
+static void no_steps(postmig_handle *it)
 {
-    uint32_t number, other;
-    postmig_pages like;
-    postmig_processor processor;
-    postmig_source_state from;
-    postmig_destination_state to;
-    postmig_command command = load(BASE);
-    postmig_handle *it = &source;
     uint32_t (*steps[])(postmig_handle *, postmig_effect *) = {
         postmig_source_start,
         postmig_source_round,
@@ -163,19 +156,41 @@ static void not_open(void)
     };
     for (size_t i = 0; i < sizeof steps / sizeof *steps; i++)
         WANT(steps[i](it, &effect) == POSTMIG_NOT_OPEN);
-    WANT(postmig_source_issue(it, 0, &command, &effect) == POSTMIG_NOT_OPEN && postmig_destination_issue(it, 0, &command, &effect) == POSTMIG_NOT_OPEN);
-    WANT(postmig_source_retry(it, 0, &effect) == POSTMIG_NOT_OPEN && postmig_destination_retry(it, 0, &effect) == POSTMIG_NOT_OPEN);
-    WANT(postmig_source_run_sent(it, 1, &effect) == POSTMIG_NOT_OPEN && postmig_source_next_run(it, 1, &number, &other) == POSTMIG_NOT_OPEN);
-    WANT(postmig_source_push(it, 1, 1, &effect) == POSTMIG_NOT_OPEN && postmig_source_push_urgent(it, 1, 1, &effect) == POSTMIG_NOT_OPEN);
-    WANT(postmig_source_check_push(it, 1, 1) == POSTMIG_NOT_OPEN && postmig_source_next_remaining(it, 0, &number) == POSTMIG_NOT_OPEN);
-    WANT(postmig_source_back(it, text, 12, &effect) == POSTMIG_NOT_OPEN && postmig_source_counts(it, &from) == POSTMIG_NOT_OPEN);
-    WANT(postmig_destination_take(it, text, 12, &effect) == POSTMIG_NOT_OPEN && postmig_destination_take_urgent(it, text, 16, &effect) == POSTMIG_NOT_OPEN);
-    WANT(postmig_destination_counts(it, &to) == POSTMIG_NOT_OPEN && postmig_destination_home(it, 16, &number) == POSTMIG_NOT_OPEN);
+}
+
+static void not_open(void)
+{
+    uint32_t number, other;
+    postmig_pages like;
+    postmig_processor processor;
+    postmig_source_state from;
+    postmig_destination_state to;
+    postmig_command command = load(BASE);
+    postmig_handle *it = &source;
+    no_steps(it);
+    WANT(postmig_source_issue(it, 0, &command, &effect) == POSTMIG_NOT_OPEN &&
+         postmig_destination_issue(it, 0, &command, &effect) == POSTMIG_NOT_OPEN);
+    WANT(postmig_source_retry(it, 0, &effect) == POSTMIG_NOT_OPEN &&
+         postmig_destination_retry(it, 0, &effect) == POSTMIG_NOT_OPEN);
+    WANT(postmig_source_run_sent(it, 1, &effect) == POSTMIG_NOT_OPEN &&
+         postmig_source_next_run(it, 1, &number, &other) == POSTMIG_NOT_OPEN);
+    WANT(postmig_source_push(it, 1, 1, &effect) == POSTMIG_NOT_OPEN &&
+         postmig_source_push_urgent(it, 1, 1, &effect) == POSTMIG_NOT_OPEN);
+    WANT(postmig_source_check_push(it, 1, 1) == POSTMIG_NOT_OPEN &&
+         postmig_source_next_remaining(it, 0, &number) == POSTMIG_NOT_OPEN);
+    WANT(postmig_source_back(it, text, 12, &effect) == POSTMIG_NOT_OPEN &&
+         postmig_source_counts(it, &from) == POSTMIG_NOT_OPEN);
+    WANT(postmig_destination_take(it, text, 12, &effect) == POSTMIG_NOT_OPEN &&
+         postmig_destination_take_urgent(it, text, 16, &effect) == POSTMIG_NOT_OPEN);
+    WANT(postmig_destination_counts(it, &to) == POSTMIG_NOT_OPEN &&
+         postmig_destination_home(it, 16, &number) == POSTMIG_NOT_OPEN);
     WANT(postmig_destination_install_run(it, 1, &effect, &number) == POSTMIG_NOT_OPEN);
-    WANT(postmig_destination_pages(it, 16, &like) == POSTMIG_NOT_OPEN && postmig_node_processor(it, 0, &processor) == POSTMIG_NOT_OPEN);
+    WANT(postmig_destination_pages(it, 16, &like) == POSTMIG_NOT_OPEN &&
+         postmig_node_processor(it, 0, &processor) == POSTMIG_NOT_OPEN);
     WANT(postmig_node_frame(it, text, sizeof text, &length) == POSTMIG_NOT_OPEN);
     WANT(postmig_node_trace_count(it, &length) == POSTMIG_NOT_OPEN);
-    WANT(postmig_node_trace(it, true) == POSTMIG_NOT_OPEN && postmig_node_trace_take(it, text, sizeof text, &length) == POSTMIG_NOT_OPEN);
+    WANT(postmig_node_trace(it, true) == POSTMIG_NOT_OPEN &&
+         postmig_node_trace_take(it, text, sizeof text, &length) == POSTMIG_NOT_OPEN);
 }
 
 /* What a processor of a node does. */
@@ -183,7 +198,8 @@ static void does(postmig_handle *node, uint8_t cpu, uint32_t state, uint32_t mes
 {
     postmig_processor now;
     DO(postmig_node_processor(node, cpu, &now));
-    WANT(now.state == state && now.messages == messages && now.command.kind == kind && now.command.addr == addr && now.command.width == (kind ? 8 : 0));
+    WANT(now.state == state && now.messages == messages && now.command.kind == kind && now.command.addr == addr &&
+         now.command.width == (kind ? 8 : 0));
 }
 
 /* The runs of pages that the destination has, from the first one on. */
@@ -202,7 +218,9 @@ static void has(const uint32_t (*runs)[3], size_t count)
 /* A trace that is off, on without a line, on with one, on twice, and off again. */
 static void traces(void)
 {
-    postmig_command map = { .kind = POSTMIG_MMAP, .length = 4096, .prot = POSTMIG_PROT_READ, .place = POSTMIG_ANYWHERE };
+    postmig_command map = {
+        .kind = POSTMIG_MMAP, .length = 4096, .prot = POSTMIG_PROT_READ, .place = POSTMIG_ANYWHERE
+    };
     const char line[] = "cpu 1 mmap 4096 r => cpu 1 at 0x10000\n";
     size_t waiting = 1;
     DO(postmig_source_new(2, 0, 0, &source));
@@ -242,7 +260,11 @@ static void start(void)
     DO(postmig_node_trace(&source, true));
     DO(postmig_node_trace(&destination, true));
     traced = true;
-    postmig_command map = { .kind = POSTMIG_MMAP, .length = 2 * PAGES * 4096, .prot = POSTMIG_PROT_READ_WRITE, .place = POSTMIG_FIXED, .target = BASE };
+    postmig_command map = { .kind = POSTMIG_MMAP,
+                            .length = 2 * PAGES * 4096,
+                            .prot = POSTMIG_PROT_READ_WRITE,
+                            .place = POSTMIG_FIXED,
+                            .target = BASE };
     DO(postmig_source_issue(&source, 0, &map, &effect));
     WANT(effect.kind == POSTMIG_DID_ANSWER && effect.reply == POSTMIG_REPLY_AT && effect.value == BASE);
     map.kind = 7;
@@ -292,7 +314,12 @@ static void precopy(void)
     WANT(length == 16 && head == 16 && pages == 4096);
     DO(postmig_destination_take(&destination, text, length, &effect));
     WANT(effect.kind == POSTMIG_DID_TAKE_ZERO && effect.addr == BASE + 4 * 4096);
-    /* a write-protect fault */
+}
+
+/* A write-protect fault, and an event. */
+static void interrupted(void)
+{
+    uint32_t first, count;
     postmig_command write = store(BASE + 4096);
     DO(postmig_source_issue(&source, 1, &write, &effect));
     WANT(effect.kind == POSTMIG_DID_SLEEP && effect.cpu == 1);
@@ -307,7 +334,6 @@ static void precopy(void)
     DO(postmig_source_retry(&source, 1, &effect));
     WANT(effect.kind == POSTMIG_DID_ANSWER && effect.cpu == 1 && effect.reply == POSTMIG_REPLY_DONE);
     SAYS(postmig_source_act(&source, &effect), POSTMIG_REFUSED_NOTHING_THERE);
-    /* an event */
     postmig_command clear = { .kind = POSTMIG_DONTNEED, .addr = BASE + 7 * 4096, .length = 4096 };
     DO(postmig_source_issue(&source, 0, &clear, &effect));
     WANT(effect.kind == POSTMIG_DID_ENTER_CALL && effect.count == 1);
@@ -315,7 +341,8 @@ static void precopy(void)
     SAYS(postmig_source_next_run(&source, 4, &first, &count), POSTMIG_REFUSED_CHANGING);
     SAYS(postmig_source_switch(&source, &effect), POSTMIG_REFUSED_CHANGING);
     DO(postmig_source_read(&source, &effect));
-    WANT(effect.kind == POSTMIG_DID_READ_LAST && effect.number == POSTMIG_EVENT_REMOVE && effect.addr == BASE + 7 * 4096 && effect.other == BASE + 8 * 4096 && effect.reply == POSTMIG_REPLY_DONE);
+    WANT(effect.kind == POSTMIG_DID_READ_LAST && effect.number == POSTMIG_EVENT_REMOVE &&
+         effect.addr == BASE + 7 * 4096 && effect.other == BASE + 8 * 4096 && effect.reply == POSTMIG_REPLY_DONE);
 }
 
 static void switched(void)
@@ -339,7 +366,11 @@ static void switched(void)
     has(runs, sizeof runs / sizeof *runs);
     does(&destination, 0, POSTMIG_PROCESSOR_IDLE, 0, 0, 0);
     SAYS(postmig_node_processor(&destination, 2, &other), POSTMIG_REFUSED_NO_CPU);
-    /* a fault on an owed page */
+}
+
+/* A fault on an owed page. */
+static void fetched(void)
+{
     postmig_command write = store(BASE + 4096);
     uint32_t page;
     DO(postmig_destination_issue(&destination, 0, &write, &effect));
@@ -371,7 +402,8 @@ static void switched(void)
     SAYS(postmig_destination_next_install(&destination, &effect), POSTMIG_REFUSED_NOTHING_THERE);
 }
 
-/* Installs the copies that wait, and one more: where memory is refused the call has made those before. Returns their number. */
+/* Installs the copies that wait, and one more: where memory is refused the call has made those before. Returns
+   their number. */
 static uint32_t install_all(uint32_t waiting)
 {
     uint32_t made = 0, sum = 0, status = POSTMIG_NO_MEMORY;
@@ -422,8 +454,10 @@ static void last(void)
     postmig_destination_state to;
     DO(postmig_source_counts(&source, &from));
     DO(postmig_destination_counts(&destination, &to));
-    WANT(from.phase == POSTMIG_SOURCE_RELEASED && from.switched == 1 && from.epoch == 2 && from.rounds == 1 && from.remaining == 0 && from.pages_sent == 8 && from.faults == 1);
-    WANT(to.phase == POSTMIG_DESTINATION_ENDED && to.has_run == 1 && to.epoch == 2 && to.owed == 0 && to.arrivals == 0 && to.installed == 3 && to.faults == 1);
+    WANT(from.phase == POSTMIG_SOURCE_RELEASED && from.switched == 1 && from.epoch == 2 && from.rounds == 1 &&
+         from.remaining == 0 && from.pages_sent == 8 && from.faults == 1);
+    WANT(to.phase == POSTMIG_DESTINATION_ENDED && to.has_run == 1 && to.epoch == 2 && to.owed == 0 &&
+         to.arrivals == 0 && to.installed == 3 && to.faults == 1);
     uint32_t status;
     while ((status = postmig_source_push(&source, 2, 16, &effect)) == POSTMIG_NO_MEMORY)
         WANT(refused); /* room for a line comes first */
@@ -443,7 +477,9 @@ static void migrate(void)
     traces();
     start();
     precopy();
+    interrupted();
     switched();
+    fetched();
     resumed();
     last();
     not_open();
@@ -472,6 +508,8 @@ int main(int argc, char **argv)
         if (!refused)
             break;
     }
-    printf("nodes of their own: each call, and %ld allocations refused, one at a time: no other answer, no other trace, no leak\n", turn);
+    printf("nodes of their own: each call, and %ld allocations refused, one at a time: no other answer, no other "
+           "trace, no leak\n",
+           turn);
     return 0;
 }

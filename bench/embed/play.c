@@ -1,7 +1,9 @@
-/* One node in a process of its own: each line of standard input is a step of a script, and standard output has its line of the node's trace, or
-   its refusal. Bytes go to the other node and come from it over pipes: bench/compare/nodes.py starts both.
+/* One node in a process of its own: each line of standard input is a step of a script, and standard output has its
+   line of the node's trace, or its refusal. Bytes go to the other node and come from it over pipes:
+   bench/compare/nodes.py starts both.
 
-   play source CPUS EPOCH ROUNDS OUT URGENT IN | play dest CPUS IN URGENT OUT      numbers of files; `drop` drops all that was not read */
+   play source CPUS EPOCH ROUNDS OUT URGENT IN | play dest CPUS IN URGENT OUT      numbers of files; `drop` drops
+                                                                                   all that was not read */
 #include <errno.h>
 #include <fcntl.h>
 #include <stdio.h>
@@ -11,9 +13,7 @@
 
 #include <postmig_node.h>
 
-enum { PAGE = 4096,
-       MOST_WORDS = 12,
-       ROOM = 8 << 20 };
+enum { PAGE = 4096, MOST_WORDS = 12, ROOM = 8 << 20 };
 
 static postmig_handle node;
 static postmig_effect effect;
@@ -80,8 +80,7 @@ static bool is(const char *word, const char *other)
 
 static uint32_t protection(const char *word)
 {
-    return is(word, "none") ? POSTMIG_PROT_NONE : is(word, "r") ? POSTMIG_PROT_READ
-                                                                : POSTMIG_PROT_READ_WRITE;
+    return is(word, "none") ? POSTMIG_PROT_NONE : is(word, "r") ? POSTMIG_PROT_READ : POSTMIG_PROT_READ_WRITE;
 }
 
 /* `words` are those from the name of the command on; after them comes a NULL. */
@@ -163,7 +162,8 @@ static void send_frames(int out, int urgent, bool is_urgent)
 enum { NO_FRAME_THERE = 1000 }; /* nodes.py knows it */
 
 /* Has `taken` take the frame at the front of a wire, once it is whole. */
-static uint32_t take_frame(struct wire *wire, uint32_t (*taken)(postmig_handle *, const uint8_t *, size_t, postmig_effect *))
+static uint32_t take_frame(struct wire *wire,
+                           uint32_t (*taken)(postmig_handle *, const uint8_t *, size_t, postmig_effect *))
 {
     size_t head = 0, pages = 0;
     uint32_t status;
@@ -182,7 +182,11 @@ static uint32_t source_step(char **words, struct wire *back)
     static const struct {
         const char *name;
         uint32_t (*step)(postmig_handle *, postmig_effect *);
-    } steps[] = { { "start", postmig_source_start }, { "round", postmig_source_round }, { "send", postmig_source_send }, { "sread", postmig_source_read }, { "sact", postmig_source_act }, { "switch", postmig_source_switch }, { "serve", postmig_source_serve }, { "end", postmig_source_end }, { "notice", postmig_source_notice }, { "resume", postmig_source_resume } };
+    } steps[] = { { "start", postmig_source_start },   { "round", postmig_source_round },
+                  { "send", postmig_source_send },     { "sread", postmig_source_read },
+                  { "sact", postmig_source_act },      { "switch", postmig_source_switch },
+                  { "serve", postmig_source_serve },   { "end", postmig_source_end },
+                  { "notice", postmig_source_notice }, { "resume", postmig_source_resume } };
 
     for (size_t i = 0; i < sizeof steps / sizeof *steps; i++)
         if (is(words[0], steps[i].name))
@@ -194,7 +198,8 @@ static uint32_t source_step(char **words, struct wire *back)
     if (is(words[0], "push") || is(words[0], "upush")) {
         uint32_t page = (uint32_t)(number(words[1]) / PAGE), ticket = words[2] ? (uint32_t)number(words[2]) : epoch;
 
-        return is(words[0], "push") ? postmig_source_push(&node, ticket, page, &effect) : postmig_source_push_urgent(&node, ticket, page, &effect);
+        return is(words[0], "push") ? postmig_source_push(&node, ticket, page, &effect)
+                                    : postmig_source_push_urgent(&node, ticket, page, &effect);
     }
     return POSTMIG_NOT_A_LINE;
 }
@@ -227,7 +232,8 @@ static uint32_t guest_step(char **words, bool is_source)
     if (!is(words[0], "cpu"))
         return POSTMIG_NOT_A_LINE;
     command = command_of(words + 2);
-    return is_source ? postmig_source_issue(&node, cpu, &command, &effect) : postmig_destination_issue(&node, cpu, &command, &effect);
+    return is_source ? postmig_source_issue(&node, cpu, &command, &effect)
+                     : postmig_destination_issue(&node, cpu, &command, &effect);
 }
 
 /* ANSWERS */
@@ -293,7 +299,8 @@ int main(int count, char **arguments)
         fail("bad use");
     open_wire(&in, arguments[is_source ? 7 : 3]);
     if (is_source) {
-        status = postmig_source_new((uint8_t)atoi(arguments[2]), (uint32_t)number(arguments[3]), (uint32_t)number(arguments[4]), &node);
+        status = postmig_source_new((uint8_t)atoi(arguments[2]), (uint32_t)number(arguments[3]),
+                                    (uint32_t)number(arguments[4]), &node);
     } else {
         open_wire(&urgent, arguments[4]);
         out[0] = atoi(arguments[5]);

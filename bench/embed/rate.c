@@ -1,5 +1,6 @@
-/* Moves owed pages from the push at a source to the install at a destination of their own, one by one, by the calls that a driver makes for
-   each. For a count of instructions: of all calls, beside Source::push, Destination::take and Destination::install in them:
+/* Moves owed pages from the push at a source to the install at a destination of their own, one by one, by the calls
+   that a driver makes for each. For a count of instructions: of all calls, beside Source::push, Destination::take
+   and Destination::install in them:
 
      valgrind --tool=callgrind --toggle-collect=move_page rate PAGES [keep | trace]
 
@@ -65,7 +66,11 @@ int main(int argc, char **argv)
     uint32_t pages = argc > 1 ? (uint32_t)strtoul(argv[1], NULL, 0) : 1024;
     DO(postmig_source_new(2, 0, 0, &source));
     DO(postmig_destination_new(2, &destination));
-    postmig_command map = { .kind = POSTMIG_MMAP, .length = UINT64_C(4096) * pages, .prot = POSTMIG_PROT_READ_WRITE, .place = POSTMIG_FIXED, .target = BASE };
+    postmig_command map = { .kind = POSTMIG_MMAP,
+                            .length = UINT64_C(4096) * pages,
+                            .prot = POSTMIG_PROT_READ_WRITE,
+                            .place = POSTMIG_FIXED,
+                            .target = BASE };
     DO(postmig_source_issue(&source, 0, &map, &effect));
     for (uint64_t i = 0; i < pages; i++) {
         postmig_command present = { .kind = POSTMIG_STORE, .width = 8, .addr = BASE + 4096 * i };

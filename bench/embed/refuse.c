@@ -1,5 +1,5 @@
-/* Each allocation refused in turn: a call returns POSTMIG_NO_MEMORY or what it returns with memory, a world and a decoder continue after that,
-   and nothing leaks.
+/* Each allocation refused in turn: a call returns POSTMIG_NO_MEMORY or what it returns with memory, a world and a
+   decoder continue after that, and nothing leaks.
 
    refuse STREAM NAME.script NAME.out .. */
 #include <stdio.h>
@@ -94,8 +94,8 @@ static bool whole(const uint8_t *script, size_t length)
     return status != POSTMIG_OK;
 }
 
-/* Looks for what is wrong with a script and its transcript, as they are and with bytes that are wrong: in the first line of the script, and in
-   the last reply of the transcript. */
+/* Looks for what is wrong with a script and its transcript, as they are and with bytes that are wrong: in the first
+   line of the script, and in the last reply of the transcript. */
 static bool faults(const uint8_t *script, size_t length)
 {
     static uint8_t text[1 << 20], said[65536], broken[1 << 20];
@@ -132,8 +132,8 @@ static bool faults(const uint8_t *script, size_t length)
             lacked = true;                             \
     } while (0)
 
-/* Plays a script, and after every seventh line and the last asks all that may be asked. Where memory is short the handle that was to have a
-   copy keeps what it had, and the same call then has its answer. */
+/* Plays a script, and after every seventh line and the last asks all that may be asked. Where memory is short the
+   handle that was to have a copy keeps what it had, and the same call then has its answer. */
 static bool questions(const uint8_t *script, size_t length)
 {
     static uint8_t out[1 << 20], again[1 << 20];
@@ -190,7 +190,8 @@ static bool frames(const uint8_t *stream, size_t length)
         while ((status = postmig_frames_feed(&open, stream + at, now)) == POSTMIG_NO_MEMORY)
             lacked = true;
         WANT(status == POSTMIG_OK);
-        while ((status = postmig_frames_next(&open, &frame, got + taken, sizeof got - taken, &written)) != POSTMIG_NO_FRAME) {
+        while ((status = postmig_frames_next(&open, &frame, got + taken, sizeof got - taken, &written)) !=
+               POSTMIG_NO_FRAME) {
             lacked |= status == POSTMIG_NO_MEMORY;
             WANT(status == POSTMIG_OK || status == POSTMIG_NO_MEMORY);
             if (status == POSTMIG_OK)
@@ -208,7 +209,8 @@ int main(int argc, char **argv)
     size_t bytes = bytes_of(argv[1], stream, sizeof stream);
     long refusals = 0;
     for (int i = 2; i + 1 < argc; i += 2) {
-        size_t length = bytes_of(argv[i], script, sizeof script), wanted = bytes_of(argv[i + 1], answers, sizeof answers);
+        size_t length = bytes_of(argv[i], script, sizeof script),
+               wanted = bytes_of(argv[i + 1], answers, sizeof answers);
         for (int part = 0; part < (i == 2 ? 5 : 4); part++)
             for (turn = 0;; turn++) {
                 live = 0;

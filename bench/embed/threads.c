@@ -1,5 +1,6 @@
-/* Several threads at once, each with handles of its own: worlds that play each script, and a migration between two nodes, over and over. Each
-   answer and each line of a trace is what one thread alone has made before. Under a detector of races (valgrind's drd) that looks into the library.
+/* Several threads at once, each with handles of its own: worlds that play each script, and a migration between two
+   nodes, over and over. Each answer and each line of a trace is what one thread alone has made before. Under a
+   detector of races (valgrind's drd) that looks into the library.
 
    threads TURNS NAME.script.. */
 #include <pthread.h>
@@ -15,19 +16,14 @@
     }
 #define DO(call) WANT((call) == POSTMIG_OK)
 
-enum { THREADS = 4,
-       PAGE = 4096,
-       PAGES = 64,
-       LOW = 0x10,
-       ROOM = 1 << 16,
-       MOST_SCRIPTS = 64 };
+enum { THREADS = 4, PAGE = 4096, PAGES = 64, LOW = 0x10, ROOM = 1 << 16, MOST_SCRIPTS = 64 };
 
 struct text {
     uint8_t bytes[ROOM];
     size_t length;
 };
 
-/* What each thread reads, and nobody writes any more. */
+/* What each thread reads, and no one writes any more. */
 static struct text *scripts, *answers, trace;
 static int count, turns;
 
@@ -67,7 +63,11 @@ static void carry_frames(struct both *both)
 
 static void begin(struct both *both)
 {
-    postmig_command map = { .kind = POSTMIG_MMAP, .length = PAGES * PAGE, .prot = POSTMIG_PROT_READ_WRITE, .place = POSTMIG_FIXED, .target = LOW * PAGE };
+    postmig_command map = { .kind = POSTMIG_MMAP,
+                            .length = PAGES * PAGE,
+                            .prot = POSTMIG_PROT_READ_WRITE,
+                            .place = POSTMIG_FIXED,
+                            .target = LOW * PAGE };
 
     DO(postmig_source_new(1, 0, 0, &both->source));
     DO(postmig_destination_new(1, &both->destination));
@@ -141,7 +141,8 @@ static void play(const struct text *script, struct text *said)
         size_t length = (size_t)(end - (script->bytes + at));
 
         WANT(end);
-        DO(postmig_world_line(&world, script->bytes + at, length, said->bytes + said->length, ROOM - said->length, &written));
+        DO(postmig_world_line(&world, script->bytes + at, length, said->bytes + said->length, ROOM - said->length,
+                              &written));
         said->length += written;
         at += length + 1;
     }

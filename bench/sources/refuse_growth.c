@@ -1,5 +1,5 @@
-/* Is loaded between a program and malloc, and refuses its growth number REFUSED, once. It makes the file REFUSED_TOLD when it does.
-   bench/compare/refusals.py builds it as a library for LD_PRELOAD. */
+/* Is loaded between a program and malloc, and refuses its growth number REFUSED, once. It makes the file REFUSED_TOLD
+   when it does. bench/compare/refusals.py builds it as a library for LD_PRELOAD. */
 #include <errno.h>
 #include <fcntl.h>
 #include <stdlib.h>

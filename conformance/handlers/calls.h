@@ -1,5 +1,5 @@
-// The calls of a handler that conformance/handler judges, as functions with the structures of the kernel: ../README.md, Your own handler.
-// In a build for the test they take the place of poll(2), read(2), ioctl(2) and send(2).
+// The calls of a handler that conformance/handler judges, as functions with the structures of the kernel: ../README.md,
+// Your own handler. In a build for the test they take the place of poll(2), read(2), ioctl(2) and send(2).
 #ifndef CALLS_H
 #define CALLS_H
 
@@ -13,8 +13,7 @@
 #include <sys/ioctl.h>
 #include <sys/types.h>
 
-enum ready { MESSAGE,
-             FRAME };
+enum ready { MESSAGE, FRAME };
 
 static inline int value_of(char digit)
 {

@@ -1,5 +1,6 @@
-// The calls of calls.h on a real descriptor, for `conformance/handler --descriptor`: standard input is a Unix socket, on which the userfaultfd
-// comes first, by SCM_RIGHTS with one byte, and then the frames of the source. What is sent goes back on it.
+// The calls of calls.h on a real descriptor, for `conformance/handler --descriptor`: standard input is a Unix socket,
+// on which the userfaultfd comes first, by SCM_RIGHTS with one byte, and then the frames of the source. What is sent
+// goes back on it.
 #ifndef DESCRIPTOR_H
 #define DESCRIPTOR_H
 
@@ -15,8 +16,7 @@
 #include <sys/types.h>
 #include <unistd.h>
 
-enum ready { MESSAGE,
-             FRAME };
+enum ready { MESSAGE, FRAME };
 
 static inline int receive_descriptor(void)
 {
@@ -26,7 +26,9 @@ static inline int receive_descriptor(void)
     } control = { 0 };
     char byte;
     struct iovec part = { &byte, 1 };
-    struct msghdr message = { .msg_iov = &part, .msg_iovlen = 1, .msg_control = &control, .msg_controllen = sizeof control };
+    struct msghdr message = {
+        .msg_iov = &part, .msg_iovlen = 1, .msg_control = &control, .msg_controllen = sizeof control
+    };
     int fd = -1;
     if (recvmsg(0, &message, 0) == 1 && CMSG_FIRSTHDR(&message))
         memcpy(&fd, CMSG_DATA(CMSG_FIRSTHDR(&message)), sizeof fd);

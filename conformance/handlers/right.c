@@ -1,4 +1,5 @@
-// A right handler of the destination, as right.py, with the structures of the kernel: by calls, or with -DDESCRIPTOR on a descriptor.
+// A right handler of the destination, as right.py, with the structures of the kernel: by calls, or with -DDESCRIPTOR on
+// a descriptor.
 #ifdef DESCRIPTOR
 #include "descriptor.h"
 #else
@@ -11,16 +12,8 @@
 #define MOST_MESSAGES 64
 
 // Frames of docs/FORMATS.md.
-enum tag { COPY = 2,
-           ZERO = 3,
-           PACKAGE = 5,
-           END = 6,
-           RESUME = 7,
-           REQUEST = 0x81,
-           RECV = 0x82,
-           DONE = 0x83 };
-enum state { RUNNING = 1,
-             ENDED = 2 };
+enum tag { COPY = 2, ZERO = 3, PACKAGE = 5, END = 6, RESUME = 7, REQUEST = 0x81, RECV = 0x82, DONE = 0x83 };
+enum state { RUNNING = 1, ENDED = 2 };
 
 // An owed page: where it lies now, and its number at the source.
 struct owed {
@@ -194,7 +187,8 @@ static void take_waiting(void)
     }
 }
 
-// Events first: they change which pages are owed, and once they are read a kernel lets ioctls through that are by the old table.
+// Events first: they change which pages are owed, and once they are read a kernel lets ioctls through that are by the
+// old table.
 static void take_messages(struct uffd_msg *messages, size_t count)
 {
     while (count < MOST_MESSAGES && handler_read(&messages[count]) > 0)
@@ -284,7 +278,8 @@ int main(void)
     size_t length;
     for (;;)
         if (waiting_count)
-            // (EAGAIN: an event is unread, or the call that had one has not gone on yet; so nothing may come that could be waited for)
+            // (EAGAIN: an event is unread, or the call that had one has not gone on yet; so nothing may come that could
+            // be waited for)
             take_messages(messages, 0);
         else if (handler_next(messages, frame, sizeof frame, &length) == MESSAGE)
             take_messages(messages, 1);

@@ -71,7 +71,7 @@ class ExistsIsFatal(Handler):
 
 
 class ExistsIsNotWoken(Handler):
-    """Nobody is woken after EEXIST."""
+    """No one is woken after EEXIST."""
 
     def wake_stale(self, page, errno):
         if errno != "EEXIST":

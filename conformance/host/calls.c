@@ -14,7 +14,7 @@ static int protection_of(const char *word)
     return !strcmp(word, "r") ? PROT_READ : PROT_NONE;
 }
 
-// mmap LEN PROT [fixed|noreplace ADDR]
+// mmap LEN PROT [fixed|noreplace|shared ADDR]
 static int parse_mmap(char **words, int count, struct call *call)
 {
     if (count != 3 && count != 5)
@@ -24,7 +24,10 @@ static int parse_mmap(char **words, int count, struct call *call)
     call->protection = protection_of(words[2]);
     call->flags = MAP_PRIVATE | MAP_ANONYMOUS | MAP_NORESERVE;
     if (count == 5) {
-        call->flags |= !strcmp(words[3], "fixed") ? MAP_FIXED : MAP_FIXED_NOREPLACE;
+        if (!strcmp(words[3], "shared"))
+            call->flags = MAP_SHARED | MAP_ANONYMOUS | MAP_FIXED;
+        else
+            call->flags |= !strcmp(words[3], "fixed") ? MAP_FIXED : MAP_FIXED_NOREPLACE;
         call->addr = number(words[4]);
     }
     return 1;
@@ -71,6 +74,8 @@ int parse_call(char **words, int count, struct call *call)
         call->kind = MUNMAP;
     else if (!strcmp(words[0], "dontneed"))
         call->kind = DONTNEED;
+    else if (!strcmp(words[0], "free"))
+        call->kind = FREE;
     else
         return 0;
     return 1;
@@ -93,6 +98,9 @@ long map_call(const struct call *call)
         break;
     case DONTNEED:
         value = syscall(SYS_madvise, call->addr, call->length, MADV_DONTNEED);
+        break;
+    case FREE:
+        value = syscall(SYS_madvise, call->addr, call->length, MADV_FREE);
         break;
     case LOAD:
     case STORE:

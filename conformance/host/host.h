@@ -22,12 +22,7 @@ double now(void);    // milliseconds
 extern int patience; // milliseconds that a thread may take to end or to fall asleep
 
 // calls.c: the commands of a processor, written as in a script
-enum kind { LOAD,
-            STORE,
-            MMAP,
-            MUNMAP,
-            MREMAP,
-            DONTNEED };
+enum kind { LOAD, STORE, MMAP, MUNMAP, MREMAP, DONTNEED, FREE };
 struct call {
     enum kind kind;
     uint64_t addr, length, width, value, new_length, target;
@@ -62,6 +57,7 @@ void open_userfault(uint64_t features);
 void lend_userfault(const char *path);
 void answer_message(void);
 void answer_copy(uint64_t addr, uint64_t mode, const char *bytes);
+void answer_move(uint64_t to, uint64_t from, uint64_t length, uint64_t mode);
 void answer_range_call(const char *name, uint64_t addr, uint64_t length, uint64_t mode);
 
 #endif

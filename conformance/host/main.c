@@ -124,7 +124,8 @@ static int take_question(char **words, int count)
 // The commands of a handler.
 static int take_handler_command(char **words, int count)
 {
-    static const char *const calls[] = { "register", "unregister", "writeprotect", "zeropage", "wake" };
+    static const char *const calls[] = { "register", "unregister", "writeprotect", "zeropage",
+                                         "continue", "poison",     "wake" };
     struct call call;
     if (!strcmp(words[0], "read")) {
         answer_message();
@@ -140,6 +141,10 @@ static int take_handler_command(char **words, int count)
     }
     if (!strcmp(words[0], "copy") && count == 4) {
         answer_copy(number(words[1]), number(words[2]), words[3]);
+        return 1;
+    }
+    if (!strcmp(words[0], "move") && count == 5) {
+        answer_move(number(words[1]), number(words[2]), number(words[3]), number(words[4]));
         return 1;
     }
     if (!strcmp(words[0], "try") && parse_call(words + 1, count - 1, &call) && call.kind > STORE) {
@@ -162,7 +167,8 @@ static void take_line(char *line)
         words[count++] = word;
     if (count && !strcmp(words[0], "quit"))
         _exit(0);
-    if (count && !take_processor_command(words, count) && !take_question(words, count) && !take_handler_command(words, count))
+    if (count && !take_processor_command(words, count) && !take_question(words, count) &&
+        !take_handler_command(words, count))
         answer("what");
     fflush(stdout);
 }

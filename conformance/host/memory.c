@@ -113,8 +113,7 @@ void require_free_space(void)
 
 static void print_area(const struct area *area)
 {
-    const char *protection = area->protection[1] == 'w' ? "rw" : area->protection[0] == 'r' ? "r"
-                                                                                            : "none";
+    const char *protection = area->protection[1] == 'w' ? "rw" : area->protection[0] == 'r' ? "r" : "none";
     printf(" 0x%lx-0x%lx:%s:%d", area->start, area->end, protection, area->modes);
 }
 

@@ -14,14 +14,9 @@
 #include <sys/syscall.h>
 #include <unistd.h>
 
-enum state { IDLE,
-             RUNNING,
-             DONE };
+enum state { IDLE, RUNNING, DONE };
 // How an access ends that the thread leaves by a jump.
-enum end { UNMAPPED = 1,
-           FORBIDDEN,
-           KICKED,
-           BUS };
+enum end { UNMAPPED = 1, FORBIDDEN, KICKED, BUS };
 
 struct processor {
     pthread_t thread;
@@ -63,8 +58,7 @@ static void on_fault(int signal, siginfo_t *info, void *context)
         (void)!write(2, text, sizeof text - 1);
         _exit(71);
     }
-    leave(signal == SIGBUS ? BUS : info->si_code == SEGV_ACCERR ? FORBIDDEN
-                                                                : UNMAPPED);
+    leave(signal == SIGBUS ? BUS : info->si_code == SEGV_ACCERR ? FORBIDDEN : UNMAPPED);
 }
 
 static void on_kick(int signal)
@@ -90,10 +84,8 @@ static uint64_t load(const struct call *call)
 
 // Needs the page as a store does, and leaves the memory as it is. So a store that slept and was woken has not been made
 // yet, and is made when it is tried again. (A load can be made twice.)
-#define TOUCH(suffix) __asm__ volatile("lock or" suffix " $0, %0"           \
-                                       : "+m"(*(volatile char *)call->addr) \
-                                       :                                    \
-                                       : "memory", "cc")
+#define TOUCH(suffix) \
+    __asm__ volatile("lock or" suffix " $0, %0" : "+m"(*(volatile char *)call->addr) : : "memory", "cc")
 static void touch(const struct call *call)
 {
     switch (call->width) {
@@ -266,7 +258,7 @@ static const char *outcome(struct processor *processor, int quiet)
     }
 }
 
-// A load of a missing page that nobody watches makes the kernel's page of zeros present. The model leaves it missing.
+// A load of a missing page that no one watches makes the kernel's page of zeros present. The model leaves it missing.
 static int has_zero_page(const struct call *call, int was_missing)
 {
     if (!was_missing || !is_present(call->addr))
@@ -329,8 +321,7 @@ void answer_asleep(int k)
     double end = now() + patience;
     while (state_of(&processors[k]) == RUNNING && !is_in_userfault(&processors[k]) && now() < end)
         usleep(10);
-    answer(state_of(&processors[k]) != RUNNING ? "done" : is_in_userfault(&processors[k]) ? "asleep"
-                                                                                          : "stuck");
+    answer(state_of(&processors[k]) != RUNNING ? "done" : is_in_userfault(&processors[k]) ? "asleep" : "stuck");
 }
 
 void answer_states(void)

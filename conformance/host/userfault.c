@@ -1,9 +1,9 @@
 // The userfaultfd: how it is opened, its messages, and its ioctls.
 #include "host.h"
 
+#include "../../audit/programs/newer.h"
 #include <errno.h>
 #include <fcntl.h>
-#include <linux/userfaultfd.h>
 #include <poll.h>
 #include <string.h>
 #include <sys/ioctl.h>
@@ -64,7 +64,8 @@ void answer_message(void)
     }
     switch (message.event) {
     case UFFD_EVENT_PAGEFAULT:
-        answer("fault 0x%llx %llu %u", message.arg.pagefault.address, message.arg.pagefault.flags, message.arg.pagefault.feat.ptid);
+        answer("fault 0x%llx %llu %u", message.arg.pagefault.address, message.arg.pagefault.flags,
+               message.arg.pagefault.feat.ptid);
         break;
     case UFFD_EVENT_REMAP:
         answer("remap 0x%llx 0x%llx %llu", message.arg.remap.from, message.arg.remap.to, message.arg.remap.len);
@@ -88,7 +89,9 @@ static int send_descriptor(int peer)
     } control = { .header = { .cmsg_len = CMSG_LEN(sizeof fd), .cmsg_level = SOL_SOCKET, .cmsg_type = SCM_RIGHTS } };
     char byte = 0;
     struct iovec part = { &byte, 1 };
-    struct msghdr message = { .msg_iov = &part, .msg_iovlen = 1, .msg_control = &control, .msg_controllen = sizeof control };
+    struct msghdr message = {
+        .msg_iov = &part, .msg_iovlen = 1, .msg_control = &control, .msg_controllen = sizeof control
+    };
     memcpy(CMSG_DATA(&control.header), &fd, sizeof fd);
     return sendmsg(peer, &message, MSG_NOSIGNAL) == 1 ? 0 : -1;
 }
@@ -122,6 +125,12 @@ void answer_copy(uint64_t addr, uint64_t mode, const char *bytes)
     answer_result(ioctl(fd, UFFDIO_COPY, &copy));
 }
 
+void answer_move(uint64_t to, uint64_t from, uint64_t length, uint64_t mode)
+{
+    struct uffdio_move move = { to, from, length, mode, 0 };
+    answer_result(ioctl(fd, UFFDIO_MOVE, &move));
+}
+
 void answer_range_call(const char *name, uint64_t addr, uint64_t length, uint64_t mode)
 {
     struct uffdio_range range = { addr, length };
@@ -134,6 +143,12 @@ void answer_range_call(const char *name, uint64_t addr, uint64_t length, uint64_
     } else if (!strcmp(name, "zeropage")) {
         struct uffdio_zeropage call = { range, mode, 0 };
         answer_result(ioctl(fd, UFFDIO_ZEROPAGE, &call));
+    } else if (!strcmp(name, "continue")) {
+        struct uffdio_continue call = { range, mode, 0 };
+        answer_result(ioctl(fd, UFFDIO_CONTINUE, &call));
+    } else if (!strcmp(name, "poison")) {
+        struct uffdio_poison call = { range, mode, 0 };
+        answer_result(ioctl(fd, UFFDIO_POISON, &call));
     } else if (!strcmp(name, "unregister")) {
         answer_result(ioctl(fd, UFFDIO_UNREGISTER, &range));
     } else {

@@ -1,7 +1,8 @@
 // on_its_way [N]: is a fault read whose page is there already? [fault-on-its-way]
 //
-// One thread loads N pages in turn, another copies them in the same order, and a third reads messages. A fault of a page that was copied before its read
-// began is of a thread that did not sleep: the copy has removed the faults of those that did. On a busy machine it is seen under chrt -f 1.
+// One thread loads N pages in turn, another copies them in the same order, and a third reads messages. A fault of a
+// page that was copied before its read began is of a thread that did not sleep: the copy has removed the faults of
+// those that did. On a busy machine it is seen under chrt -f 1.
 #include <errno.h>
 #include <fcntl.h>
 #include <linux/userfaultfd.h>
@@ -84,12 +85,14 @@ int main(int count, char **words)
     if (memory == MAP_FAILED || madvise((void *)memory, pages * PAGE, MADV_NOHUGEPAGE))
         fail("mmap");
     open_userfault();
-    if (pthread_create(&threads[0], 0, read_messages, &late) || pthread_create(&threads[1], 0, load, 0) || pthread_create(&threads[2], 0, copy, 0))
+    if (pthread_create(&threads[0], 0, read_messages, &late) || pthread_create(&threads[1], 0, load, 0) ||
+        pthread_create(&threads[2], 0, copy, 0))
         fail("a thread");
     pthread_join(threads[2], 0);
     pthread_join(threads[1], 0);
     is_over = 1;
     pthread_join(threads[0], 0);
-    printf("%zu pages: %zu faults read whose page was there%s\n", pages, late, late ? "" : ": the race was not seen in this run");
+    printf("%zu pages: %zu faults read whose page was there%s\n", pages, late,
+           late ? "" : ": the race was not seen in this run");
     return 0;
 }

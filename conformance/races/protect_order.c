@@ -1,8 +1,8 @@
 // protect_order [N]: does it matter whether a source protects a page and then reads it, or the other way round?
 //
-// A processor stores rising numbers to one page without a pause, and the page is sent N times in each order. The copy is lost where the page holds
-// something else than the copy once the processor sleeps in its next store: a store between was neither sent nor seen.
-// The status is 3 where protecting first loses a copy.
+// A processor stores rising numbers to one page without a pause, and the page is sent N times in each order. The copy
+// is lost where the page holds something else than the copy once the processor sleeps in its next store: a store
+// between was neither sent nor seen. The status is 3 where protecting first loses a copy.
 #include <fcntl.h>
 #include <linux/userfaultfd.h>
 #include <poll.h>
@@ -91,8 +91,8 @@ int main(int count, char **words)
         int lost = 0;
         for (int i = 0; i < sends; i++)
             lost += send(reads_first);
-        printf("%s: %d of %d copies lost a store%s\n", reads_first ? "read, then protected" : "protected, then read", lost, sends,
-               reads_first && !lost ? ": the race was not seen in this run" : "");
+        printf("%s: %d of %d copies lost a store%s\n", reads_first ? "read, then protected" : "protected, then read",
+               lost, sends, reads_first && !lost ? ": the race was not seen in this run" : "");
         if (!reads_first && lost)
             status = 3;
     }

@@ -1,7 +1,8 @@
 // unregister [N]: does UFFDIO_UNREGISTER leave a thread asleep?
 //
-// A thread makes its first access to the last page of a range while the range is unregistered, N times for each way to register it. Then it has gone
-// on, or it sleeps until UFFDIO_WAKE is called for the range. The status is 3 where it sleeps after that too.
+// A thread makes its first access to the last page of a range while the range is unregistered, N times for each way to
+// register it. Then it has gone on, or it sleeps until UFFDIO_WAKE is called for the range. The status is 3 where it
+// sleeps after that too.
 #include <fcntl.h>
 #include <linux/userfaultfd.h>
 #include <pthread.h>
@@ -57,7 +58,8 @@ static int is_done_within(useconds_t microseconds)
     return is_done;
 }
 
-// All pages but the last are there. Returns 0 where the thread has gone on, 1 where it sleeps until it is woken, and else 2.
+// All pages but the last are there. Returns 0 where the thread has gone on, 1 where it sleeps until it is woken, and
+// else 2.
 static int unregister(size_t pages, uint64_t mode)
 {
     char *memory = mmap(0, pages * PAGE, PROT_READ | PROT_WRITE, MAP_PRIVATE | MAP_ANONYMOUS, -1, 0);
@@ -104,7 +106,8 @@ int main(int count, char **words)
             }
             asleep += sleeps;
         }
-        printf("%s: %d of %d asleep until UFFDIO_WAKE%s\n", is_large ? "64 MiB in both modes" : "a page for missing faults", asleep, times,
+        printf("%s: %d of %d asleep until UFFDIO_WAKE%s\n",
+               is_large ? "64 MiB in both modes" : "a page for missing faults", asleep, times,
                asleep ? "" : ": the race was not seen in this run");
     }
     return 0;

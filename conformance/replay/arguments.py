@@ -109,7 +109,7 @@ def start(main):
     except KeyboardInterrupt:
         status = 130
     except BrokenPipeError:
-        # Nobody reads the output any more: what is left of it goes nowhere.
+        # No one reads the output any more: what is left of it goes nowhere.
         os.dup2(os.open(os.devnull, os.O_WRONLY), sys.stdout.fileno())
         status = 1
     except OSError as fault:

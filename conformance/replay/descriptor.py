@@ -29,7 +29,7 @@ from .tested_guest import TestedGuest
 from .tested_program import CALLS, how_it_ended
 
 SIOCOUTQ = 0x5411
-# The bytes that a socket takes although nobody reads them.
+# The bytes that a socket takes although no one reads them.
 MOST_AT_REST = 1 << 16
 # Seconds between two looks at the threads, in which they may have the processor.
 BETWEEN_LOOKS = 0.0002

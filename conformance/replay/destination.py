@@ -101,8 +101,8 @@ class Destination(Node, nodes.Destination):
 
     def put_arrival(self, page, origin, data):
         cpus = self.guest.sleepers_of(page)
-        self.put_copy(page, origin, data)
+        self.install_copy(page, origin, data)
         self.guest.see_woken(cpus)
 
-    def put_copy(self, page, origin, data):
+    def install_copy(self, page, origin, data):
         self.put(page, data)

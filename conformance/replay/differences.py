@@ -20,7 +20,7 @@ MODEL_ONLY = "model-only"
 LED = {
     MODEL_ONLY: (CHOICES, "the kernel is not asked: accesses of a wrong form, limits of the model's address space"),
     "place-requested": (CHOICES, "the kernel is asked for the least free place"),
-    "page-of-zeros": (CHOICES, "the page of zeros that a load makes present where nobody watches is removed"),
+    "page-of-zeros": (CHOICES, "the page of zeros that a load makes present where no one watches is removed"),
     "areas": (CHOICES, "one area of the model that is several in the kernel is moved, cut or grown by pieces"),
     "fault-of-each-thread": (
         OBJECT, "the message of a second thread for a page stays unread", "fault-of-each-thread"

@@ -12,7 +12,7 @@ from .pages import HIGH, LOW, MAX_PAGES, PAGE, PROCESS_END, cut, meets, pages_of
 from .script import Dontneed, Mmap, Mremap, Munmap
 
 
-class Made(NamedTuple):
+class CallResult(NamedTuple):
     """A map call that was made. messages: those unread by the model's rules, in its order. value: what the call will
     return where it sleeps in the kernel. is_entered: whether it enters the transcript; what was answered by a copy
     alone does not."""
@@ -58,24 +58,24 @@ class MapCall:
     def model_only(self, reply):
         """A limit of the model's address space: the kernel is not asked."""
         self.record.tag("model-only")
-        return Made(reply)
+        return CallResult(reply)
 
     def on_copy(self, command, expected, difference=None, place=None):
         """What the kernel answers on a copy. `difference` is the tag where that may be something else."""
         found = self.reply(self.guest.attempt(command), place)
         if found != expected and difference:
             self.record.tag(difference)
-        return Made(found, is_entered=found == expected)
+        return CallResult(found, is_entered=found == expected)
 
     def for_real(self, command, wanted, value, in_order=True):
         """Makes the call: it must return `value`, or an errno, and have these messages."""
         returned = self.guest.call(self.cpu, command, wanted, in_order)
         if returned is None:
-            return Made(self.reply(value), tuple(wanted), value)
+            return CallResult(self.reply(value), tuple(wanted), value)
         found, events = returned
         if events != wanted:
             raise Finding(f"messages {events}, by the model {wanted}")
-        return Made(self.reply(found), tuple(events))
+        return CallResult(self.reply(found), tuple(events))
 
 
 class MmapCall(MapCall):
@@ -155,7 +155,7 @@ class DontneedCall(MapCall):
             self.record.tag("cleared-at-once")
         if events and events != whole:
             self.record.tag("remove-of-each-area")
-        return Made(self.reply(value), tuple(whole if events else ()))
+        return CallResult(self.reply(value), tuple(whole if events else ()))
 
     def may_stay(self):
         """Whether a call can be left asleep: no other is."""
@@ -167,7 +167,7 @@ class DontneedCall(MapCall):
             raise Finding(f"a dontneed of registered pages: {said}")
         self.record.tag("cleared-late")
         message = Event("remove", made.addr, end)
-        return Made("refused ENOMEM", (message,), -12) if has_hole else Made("done", (message,), 0)
+        return CallResult("refused ENOMEM", (message,), -12) if has_hole else CallResult("done", (message,), 0)
 
 
 class MremapCall(MapCall):
@@ -245,7 +245,7 @@ class MremapCall(MapCall):
         _, events = self.guest.call_through(self.cpu, Munmap(self.start + self.new, self.old - self.new))
         if events != cut_off:
             raise Finding(f"messages {events}, by the model {cut_off}")
-        return Made(self.reply(self.start), tuple(events))
+        return CallResult(self.reply(self.start), tuple(events))
 
     def grow_or_move(self):
         grown_end = self.start + self.new
@@ -264,11 +264,11 @@ class MremapCall(MapCall):
         if len(self.parts) > 1:
             self.record.tag("areas")
             self.add_behind(self.end)
-            return Made(self.reply(self.start))
+            return CallResult(self.reply(self.start))
         value, events = self.guest.call_through(self.cpu, self.command)
         if events:
             raise Finding(f"messages {events} of a growth in place")
-        return Made(self.reply(value))
+        return CallResult(self.reply(value))
 
     def add_behind(self, at):
         """What the kernel does not let grow: a mapping of its own, registered as the range's last page."""
@@ -295,10 +295,10 @@ class MremapCall(MapCall):
         real = Mremap(self.start, self.command.old, self.command.new, True, target)
         returned = self.guest.call(self.cpu, real, wanted, in_order)
         if returned is None:
-            return Made(self.reply(target), tuple(wanted), target)
+            return CallResult(self.reply(target), tuple(wanted), target)
         value, events = returned
         if value != target:
-            return Made(self.reply(value))
+            return CallResult(self.reply(value))
         old_place = Event("unmap", self.start, self.kept_end)
         if any(event.kind == "remap" for event in wanted):
             self.record.tag("messages-of-mremap")
@@ -307,7 +307,7 @@ class MremapCall(MapCall):
             events.remove(old_place)
         if sorted(events) != sorted(wanted):
             raise Finding(f"messages {events}, by the model {wanted}")
-        return Made(self.reply(target), tuple(wanted))
+        return CallResult(self.reply(target), tuple(wanted))
 
     def move_by_pieces(self, target, wanted, moved):
         """A range that is one area in the model and several in the kernel."""
@@ -327,7 +327,7 @@ class MremapCall(MapCall):
         found = pages_of(event.left_range() for event in pieces)
         if found != pages_of(cut(self.registered, self.start, self.kept_end)):
             raise Finding(f"messages {pieces} of pieces")
-        return Made(self.reply(target), tuple(wanted + moved))
+        return CallResult(self.reply(target), tuple(wanted + moved))
 
     def move_piece(self, part, target):
         """The REMAP of one piece, if it has one."""

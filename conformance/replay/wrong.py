@@ -77,7 +77,7 @@ def destination_registers_nothing():
 
 def installs_at_the_origin():
     """A copy is put where its page was at the source."""
-    Destination.put_copy = lambda node, page, origin, data: node.guest.host.put(origin, data)
+    Destination.install_copy = lambda node, page, origin, data: node.guest.host.put(origin, data)
 
 
 def change_table(kind):
@@ -113,9 +113,9 @@ def installs_while_changing():
 
 def wakes_nobody():
     """A copy is installed with UFFDIO_COPY_MODE_DONTWAKE."""
-    old = Destination.put_copy
+    old = Destination.install_copy
 
-    def put_copy(node, page, origin, data):
+    def install_copy(node, page, origin, data):
         old_ask = Host.ask
         Host.ask = lambda host, line: old_ask(host, line.replace(" 0 ", " 1 ", 1) if line.startswith("copy") else line)
         try:
@@ -123,7 +123,7 @@ def wakes_nobody():
         finally:
             Host.ask = old_ask
 
-    Destination.put_copy = put_copy
+    Destination.install_copy = install_copy
 
 
 def zeros_for_bytes():

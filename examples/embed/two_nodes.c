@@ -1,5 +1,6 @@
-/* A source and a destination in two processes, by the calls of postmig_node.h: sixteen pages move over a socket while both sides use them.
-   Memory is an array on each side, and a fault is what the node says of an access; live/ has both from the kernel. */
+/* A source and a destination in two processes, by the calls of postmig_node.h: sixteen pages move over a socket
+   while both sides use them. Memory is an array on each side, and a fault is what the node says of an access; live/
+   has both from the kernel. */
 #include <poll.h>
 #include <stdbool.h>
 #include <stdio.h>
@@ -11,11 +12,7 @@
 
 #include "postmig_node.h"
 
-enum { PAGE = 4096,
-       PAGES = 16,
-       LOW = 0x10,
-       MOST = 64,
-       EPOCH = 1 };
+enum { PAGE = 4096, PAGES = 16, LOW = 0x10, MOST = 64, EPOCH = 1 };
 
 static unsigned char memory[PAGES][PAGE]; /* page LOW of the node is the first */
 static unsigned char head[1 << 16], pages[MOST * PAGE];
@@ -97,10 +94,15 @@ static void put_pages(uint64_t address, uint32_t count)
     put(page_at(address), (size_t)count * PAGE);
 }
 
-/* What the guest has before the migration: the node hears of each page that has contents, and of none of the bytes. */
+/* What the guest has before the migration: the node hears of each page that has contents, and of none of the
+   bytes. */
 static void enter_memory(void)
 {
-    postmig_command map = { .kind = POSTMIG_MMAP, .length = sizeof memory, .prot = POSTMIG_PROT_READ_WRITE, .place = POSTMIG_FIXED, .target = address_of(0) };
+    postmig_command map = { .kind = POSTMIG_MMAP,
+                            .length = sizeof memory,
+                            .prot = POSTMIG_PROT_READ_WRITE,
+                            .place = POSTMIG_FIXED,
+                            .target = address_of(0) };
 
     DO(postmig_source_issue(&node, 0, &map, &effect));
     for (uint32_t i = 0; i < PAGES; i++) {
@@ -117,7 +119,8 @@ static void make_round(void)
 
     DO(postmig_source_round(&node, &effect));
     while (postmig_source_next_run(&node, 4, &first, &count) == POSTMIG_OK) {
-        DO(postmig_source_run_sent(&node, (uint8_t)count, &effect)); /* (real memory is write-protected before that) */
+        /* (real memory is write-protected before that) */
+        DO(postmig_source_run_sent(&node, (uint8_t)count, &effect));
         put_pages(effect.addr, effect.count);
     }
 }
@@ -130,7 +133,8 @@ static void guest_stores(uint32_t page)
     DO(postmig_source_issue(&node, 0, &store, &effect));
     if (effect.kind == POSTMIG_DID_SLEEP) {
         DO(postmig_source_read(&node, &effect));
-        DO(postmig_source_act(&node, &effect)); /* (real memory: UFFDIO_WRITEPROTECT, or UFFDIO_ZEROPAGE, as next_act says) */
+        DO(postmig_source_act(&node, &effect)); /* (real memory: UFFDIO_WRITEPROTECT, or UFFDIO_ZEROPAGE, as next_act
+                                                   says) */
         DO(postmig_source_retry(&node, 0, &effect));
     }
     memset(memory[page], 'A' + (int)page, PAGE);
@@ -155,7 +159,8 @@ static bool push(void)
         page = (uint32_t)(effect.addr / PAGE);
     else if (postmig_source_next_remaining(&node, LOW, &page) != POSTMIG_OK)
         return false;
-    if (postmig_source_push(&node, EPOCH, page, &effect) == POSTMIG_OK) /* else it was pushed before it was asked for */
+    /* else it was pushed before it was asked for */
+    if (postmig_source_push(&node, EPOCH, page, &effect) == POSTMIG_OK)
         put_pages(effect.addr, 1);
     return true;
 }
@@ -186,7 +191,8 @@ static void run_source(void)
 /* The copy that has just come is put where the node says. */
 static void install(void)
 {
-    DO(postmig_destination_install(&node, &effect)); /* (real memory: UFFDIO_COPY, at the place that next_install says, and then install) */
+    DO(postmig_destination_install(&node, &effect)); /* (real memory: UFFDIO_COPY, at the place that next_install says,
+                                                        and then install) */
     if (effect.kind == POSTMIG_DID_INSTALL)
         memcpy(page_at(effect.addr), pages, PAGE);
     if (is_asleep && postmig_destination_retry(&node, 0, &effect) == POSTMIG_OK)

@@ -1,5 +1,6 @@
-/* A page-fault handler in Firecracker's form, which is the destination of a migration. A monitor hands over its userfaultfd and its memory at a
-   Unix socket; the frames of a source come at the standard input. Once all pages are there the memory is left to the kernel, and the handler ends.
+/* A page-fault handler in Firecracker's form, which is the destination of a migration. A monitor hands over its
+   userfaultfd and its memory at a Unix socket; the frames of a source come at the standard input. Once all pages
+   are there the memory is left to the kernel, and the handler ends.
 
        handler unix:PATH PAGES PROCESSORS */
 #include <errno.h>
@@ -16,7 +17,8 @@ static struct guest guest; /* (of this only how many pages and processors it has
 static struct stream channel;
 static bool has_run, has_ended;
 
-/* A copy that comes before the guest runs. (Nothing can be written to the monitor's memory but by UFFDIO_COPY, which puts no page twice.) */
+/* A copy that comes before the guest runs. (Nothing can be written to the monitor's memory but by UFFDIO_COPY,
+   which puts no page twice.) */
 static void keep(uint64_t first, const struct frame *frame)
 {
     uint64_t count = frame->page_bytes ? frame->page_bytes / PAGE_BYTES : 1, page = first - LOW_PAGE;
@@ -30,7 +32,8 @@ static void keep(uint64_t first, const struct frame *frame)
     handed_keep(&monitor, page, count);
 }
 
-/* The node has the Package. Only what it calls present is a copy that still counts: a Discard has taken others away. */
+/* The node has the Package. Only what it calls present is a copy that still counts: a Discard has taken others
+   away. */
 static void run_guest(void)
 {
     uint32_t end = LOW_PAGE + monitor.pages;
@@ -48,7 +51,8 @@ static void run_guest(void)
     has_run = true;
 }
 
-/* A page that comes since: first the node says where it goes, then the kernel puts it, then the node makes the step. */
+/* A page that comes since: first the node says where it goes, then the kernel puts it, then the node makes the
+   step. */
 static void install(const struct frame *frame)
 {
     postmig_effect next;
@@ -74,11 +78,13 @@ static void take(const struct frame *frame)
 {
     postmig_effect effect;
 
-    node_expect(postmig_destination_take(&node.handle, frame->head, frame->head_bytes, &effect), "a frame of the source");
+    node_expect(postmig_destination_take(&node.handle, frame->head, frame->head_bytes, &effect),
+                "a frame of the source");
     has_ended |= effect.kind == POSTMIG_DID_TAKE_END;
     if (effect.kind == POSTMIG_DID_TAKE_PACKAGE)
         run_guest();
-    else if (effect.kind != POSTMIG_DID_TAKE_ZERO && effect.kind != POSTMIG_DID_TAKE_RUN) /* (of a Page the effect is that of a Zero) */
+    /* (of a Page the effect is that of a Zero) */
+    else if (effect.kind != POSTMIG_DID_TAKE_ZERO && effect.kind != POSTMIG_DID_TAKE_RUN)
         return;
     else if (has_run)
         install(frame);
@@ -99,7 +105,7 @@ static void exchange(void)
         take(&frame);
         stream_take(&channel, frame.head_bytes + frame.page_bytes);
     }
-    (void)node_send_frames(&node, &channel); /* how many is of no interest */
+    (void)node_send_frames(&node, &channel); /* the count is not needed */
     if ((!is_whole || !stream_send(&channel)) && !has_ended)
         lose("the source has ended");
 }
@@ -114,7 +120,8 @@ int main(int count, char **words)
     (void)signal(SIGPIPE, SIG_IGN); /* it always succeeds */
     stream_open(&channel, feed_channel(), NULL, &(struct cut)NO_CUT);
     address_read(&address, words[1]);
-    guest.plan = (struct guest_plan){ .pages = (uint32_t)strtoul(words[2], NULL, 10), .threads = (uint32_t)strtoul(words[3], NULL, 10) };
+    guest.plan = (struct guest_plan){ .pages = (uint32_t)strtoul(words[2], NULL, 10),
+                                      .threads = (uint32_t)strtoul(words[3], NULL, 10) };
     node_expect(postmig_destination_new((uint8_t)guest.plan.threads, &node.handle), "postmig_destination_new");
     handed_accept(&monitor, &address, guest.plan.pages);
     greet_begin(&own, guest.plan.pages, guest.plan.threads);
@@ -125,14 +132,15 @@ int main(int count, char **words)
         struct pollfd files[] = { { .fd = channel.file, .events = stream_unsent(&channel) ? POLLIN | POLLOUT : POLLIN },
                                   { .fd = has_run ? watch.userfault : -1, .events = POLLIN } };
 
-        (void)poll(files, 2, watch.is_behind || monitor.kept_pages ? 0 : 100); /* what is there is looked at in any case */
+        /* what is there is looked at in any case */
+        (void)poll(files, 2, watch.is_behind || monitor.kept_pages ? 0 : 100);
         if (has_run)
             watch_handle(&watch);
         exchange();
         if (has_run)
-            (void)watch_put_kept(&watch, 16);
+            (void)watch_install_kept(&watch, 16);
     }
-    while (watch_put_kept(&watch, 16))
+    while (watch_install_kept(&watch, 16))
         watch_handle(&watch);
     handed_leave(&monitor, NULL);
     return STATUS_OK;

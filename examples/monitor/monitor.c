@@ -1,5 +1,6 @@
-/* A monitor: it maps the memory of a guest, hands it over to a handler as Firecracker does, and runs the guest once the handler says so. The
-   guest has two threads. They read all of its memory, one from the first page on and one from the last, and what they have read is written.
+/* A monitor: it maps the memory of a guest, hands it over to a handler as Firecracker does, and runs the guest once
+   the handler says so. The guest has two threads. They read all of its memory, one from the first page on and one
+   from the last, and what they have read is written.
 
        monitor unix:PATH PAGES FILE */
 #include <liblive.h>
@@ -34,7 +35,7 @@ static void run_guest(void)
 
     if (pthread_create(&up, NULL, read_upwards, NULL) || pthread_create(&down, NULL, read_downwards, NULL))
         refuse("a thread of the guest cannot be started");
-    (void)pthread_join(up, NULL); /* it is a thread of this process, and nobody else joins it */
+    (void)pthread_join(up, NULL); /* it is a thread of this process, and no one else joins it */
     (void)pthread_join(down, NULL);
 }
 

@@ -1,6 +1,6 @@
-/* The source of a migration: the memory of a guest of two threads, which store to it until the switch, moves to a destination. That is
-   COMMAND, to whose standard input the frames go; or who has started this program, with frames at its standard input and output. What the memory
-   had at the switch is written.
+/* The source of a migration: the memory of a guest of two threads, which store to it until the switch, moves to a
+   destination. That is COMMAND, to whose standard input the frames go; or who has started this program, with frames
+   at its standard input and output. What the memory had at the switch is written.
 
        source PAGES FILE [COMMAND] */
 #include <errno.h>
@@ -44,7 +44,7 @@ static char *at_page(uint32_t page)
 /* Sends what is there to be sent, with the frames that the node has. */
 static void send_all(void)
 {
-    (void)node_send_frames(&node, &channel); /* how many is of no interest */
+    (void)node_send_frames(&node, &channel); /* the count is not needed */
     while (stream_unsent(&channel)) {
         if (!stream_send(&channel))
             lose("the destination has ended");
@@ -89,7 +89,8 @@ static bool push(void)
         page = (uint32_t)(effect.addr / PAGE_BYTES);
     else if (postmig_source_next_remaining(&node.handle, LOW_PAGE, &page) != POSTMIG_OK)
         return false;
-    if (postmig_source_push(&node.handle, EPOCH, page, &effect) == POSTMIG_OK) /* else it was pushed before it was asked for */
+    /* else it was pushed before it was asked for */
+    if (postmig_source_push(&node.handle, EPOCH, page, &effect) == POSTMIG_OK)
         node_put_page(&channel, EPOCH, page, at_page(page));
     send_all();
     return true;
@@ -105,14 +106,16 @@ static bool take_back(void)
     if (!stream_receive(&channel, HEADER_BYTES))
         lose("the destination has ended");
     while (node_front(&channel, &frame, &missing)) {
-        node_expect(postmig_source_back(&node.handle, frame.head, frame.head_bytes, &effect), "a frame of the destination");
+        node_expect(postmig_source_back(&node.handle, frame.head, frame.head_bytes, &effect),
+                    "a frame of the destination");
         is_done |= effect.kind == POSTMIG_DID_TAKE_DONE;
         stream_take(&channel, frame.head_bytes);
     }
     return is_done;
 }
 
-/* (A page that was never touched is missing until nobody watches the memory: who reads it here before that waits for itself.) */
+/* (A page that was never touched is missing until no one watches the memory: who reads it here before that waits
+   for itself.) */
 static void write_memory(const char *name)
 {
     FILE *file = fopen(name, "w");

@@ -1,5 +1,6 @@
-// A guest without an operating system: its processors load and store words of its memory at once, and write down each operation with the ticks
-// between which it took effect. At the end it writes the history, as docs/HISTORY.md has it, to the debug port or the serial one.
+// A guest without an operating system: its processors load and store words of its memory at once, and write down each
+// operation with the ticks between which it took effect. At the end it writes the history, as docs/HISTORY.md has it,
+// to the debug port or the serial one.
 #include "machine.h"
 #include "settings.h"
 
@@ -101,12 +102,14 @@ static void put_record(const struct record *record, uint32_t processor, uint32_t
     if (record->sum != sum_of(record, processor))
         put_line("damaged record ? of processor ?\n", (const uint64_t[]){ number, processor });
     else if (!(record->addr & STORES))
-        put_line("? ? ? load ? 4 => value ?\n", (const uint64_t[]){ processor, record->begin, record->end, addr, record->value });
+        put_line("? ? ? load ? 4 => value ?\n",
+                 (const uint64_t[]){ processor, record->begin, record->end, addr, record->value });
     else if (settings.swaps)
         put_line("? ? ? swap ? 4 ? => value ?\n",
                  (const uint64_t[]){ processor, record->begin, record->end, addr, record->value, record->found });
     else
-        put_line("? ? ? store ? 4 ? => done\n", (const uint64_t[]){ processor, record->begin, record->end, addr, record->value });
+        put_line("? ? ? store ? 4 ? => done\n",
+                 (const uint64_t[]){ processor, record->begin, record->end, addr, record->value });
 }
 
 static void put_history(void)
@@ -235,7 +238,8 @@ void run_first(uint32_t magic, const uint32_t *info)
         halt();
     }
     start_others(&others, settings.processors - 1);
-    put_line("# ? processors, memory up to ?\n", (const uint64_t[]){ settings.processors, (uint32_t)records_of(settings.processors) });
+    put_line("# ? processors, memory up to ?\n",
+             (const uint64_t[]){ settings.processors, (uint32_t)records_of(settings.processors) });
     is_running = 1;
     work(0);
     put_history();

@@ -18,7 +18,8 @@ struct settings {
     uint32_t serial; // 1: lines go to the serial port
 };
 
-// Reads the words KEY=NUMBER of a text, or none where it is NULL. Others are skipped. Returns the first whose number is not allowed, or NULL.
+// Reads the words KEY=NUMBER of a text, or none where it is NULL. Others are skipped. Returns the first whose number is
+// not allowed, or NULL.
 const char *read_settings(struct settings *settings, const char *text);
 
 #endif

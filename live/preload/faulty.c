@@ -1,5 +1,5 @@
-/* For tests, by LD_PRELOAD: while the file FAULTY_FILE is there, calls of the main thread fail. FAULTY_CALL is `malloc` or the number of a request
-   of ioctl(2), FAULTY_ERRNO the errno. */
+/* For tests, by LD_PRELOAD: while the file FAULTY_FILE is there, calls of the main thread fail. FAULTY_CALL is
+   `malloc` or the number of a request of ioctl(2), FAULTY_ERRNO the errno. */
 #define _GNU_SOURCE
 #include <errno.h>
 #include <stdarg.h>
@@ -18,7 +18,8 @@ static int is_faulty(const char *call)
 {
     const char *file = getenv("FAULTY_FILE"), *wanted = getenv("FAULTY_CALL");
 
-    return file && wanted && !strcmp(call, wanted) && syscall(SYS_gettid) == syscall(SYS_getpid) && !syscall(SYS_access, file, F_OK);
+    return file && wanted && !strcmp(call, wanted) && syscall(SYS_gettid) == syscall(SYS_getpid) &&
+        !syscall(SYS_access, file, F_OK);
 }
 
 static int fail(void)
