@@ -88,3 +88,7 @@ FaultAtEnd cpus input (faults.Line n) = WrongAt cpus input n
 FaultAtEnd cpus input faults.ReadFault = ⊥
 FaultAtEnd cpus input faults.WriteFault = ⊥
 FaultAtEnd cpus input faults.NoMemory = SomeMet cpus input
+
+-- how the test of this input came out, as this state has it
+abbrev pub Came : List ℕ → ℕ → List ℕ → Outcome → Tester → Type 0
+Came name cpus input outcome state = Comes name cpus input outcome state.player.answers state.player.report.items

@@ -13,7 +13,7 @@ ghost use Rattle.postmig_c.specs.Calls.{StopsAtLine, CheckStopsAtLine, asks_reas
 use crate::room::hand_over;
 use crate::status::{NO_CPU, NO_MEMORY, NOT_A_LINE};
 use crate::worlds::mode_of;
-use engine::{RunFault, check_script, run_script};
+use engine::{RunFault, Setup, check_script, run_script};
 use explain::{Asks, Noting, explain_script};
 use std::alloc::Global;
 
@@ -57,7 +57,8 @@ pub extern "C" fn postmig_run(
     }
     let mut reader = script;
     let mut text = Vec::new(alloc);
-    match run_script(alloc, &mut reader, &mut text, cpus, mode_of(is_transcript)) {
+    let mode = mode_of(is_transcript);
+    match run_script(alloc, &mut reader, &mut text, Setup { cpus, mode }) {
         Ok(()) => hand_over(&text, out, written),
         Err(fault) => status_of(fault, written),
     }
