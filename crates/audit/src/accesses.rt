@@ -47,7 +47,9 @@ pub(crate) enum ThreadTask {
     Leave(Fault),
     /// The fault that a thread has left need not be answered: it has the same one again.
     Forget(Fault),
-    /// A thread sees its page, if it has not yet, and queues its fault.
+    /// A thread sees its page, unless it waits.
+    See(Access),
+    /// The same, and it queues its fault.
     Touch(Access),
     /// The same, once its page may be missing.
     Queue(Access),
@@ -92,6 +94,7 @@ impl Search {
                 self.kernel.notes.forget_fault(fault);
                 Ok(())
             }
+            ThreadTask::See(access) => self.see(access),
             ThreadTask::Touch(access) => self.touch(access),
             ThreadTask::Queue(access) => {
                 self.touched = self.queue(access)?;
@@ -330,6 +333,13 @@ impl Search {
             && is_still(held, now)
         {
             self.step(Move::Leaves { thread })?;
+        }
+        Ok(())
+    }
+
+    pub(crate) fn see(&mut self, access: Access) -> Result<(), NoMemory> {
+        if find(self.kernel.rules.faults(), access.thread).is_none() {
+            self.step(access.seen())?;
         }
         Ok(())
     }

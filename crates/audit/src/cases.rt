@@ -276,8 +276,10 @@ fn add_calls(cases: &mut Vec<Case>, alloc: Global, judged: &Judged) -> Result<()
     for place in &judged.notes.before {
         add(cases, before_case(log, *place))?;
     }
-    for twice in &find_wakes(alloc, log, &judged.notes.twice)? {
-        add(cases, twice_case(log, twice))?;
+    for stopped in [&judged.notes.twice, &judged.notes.put_before] {
+        for twice in &find_wakes(alloc, log, stopped)? {
+            add(cases, twice_case(log, twice))?;
+        }
     }
     Ok(())
 }

@@ -1,12 +1,15 @@
-//! Faults that are read after a call has ended what they are of: their threads have found it before.
+//! Faults that are read after a call has ended what they are of: their threads have found it before, also those that sleep and leave by a signal.
 
+use crate::accesses::ThreadTask;
 use crate::search::Search;
 use crate::search::index::{FaultRead, message_of};
 use crate::search::spans::{At, Of};
+use crate::tellers::Told;
 use call_log::log_call::{LogCall, PROTECTS};
 use call_log::pages::Range;
 use foundation::NoMemory;
 use kernel_rules::answers::is_clearing;
+use kernel_rules::Phase;
 use kernel_rules::fault::{find, is_protection};
 use uffd_log::{Call, Message};
 
@@ -38,13 +41,23 @@ fn is_of(ended: Ended, flags: u64) -> bool {
     }
 }
 
+/// Whether an event may be read before a fault.
+fn is_before(told: Told, fault: FaultRead) -> bool {
+    if told.call == fault.call {
+        told.message < fault.message
+    } else {
+        told.begin < fault.end
+    }
+}
+
 impl Search {
     /// A call is about to take effect: who waits at its pages for a fault that is read later has found it.
     pub(crate) fn foresee(&mut self, place: u32) -> Result<(), NoMemory> {
         let Some(call) = self.log.call(place) else {
             return Ok(());
         };
-        let (Some(ended), Some(range)) = (ended_by(&call), self.log.pages_of(&call)) else {
+        let pages = call.done_pages(self.log.size).or(self.log.pages_of(&call));
+        let (Some(ended), Some(range)) = (ended_by(&call), pages) else {
             return Ok(());
         };
         if let Some(object) = call.object() {
@@ -94,7 +107,7 @@ impl Search {
         let Some(read) = self.log.call(fault.call) else {
             return Ok(false);
         };
-        if read.done || read.begin < self.line {
+        if read.done {
             return Ok(true);
         }
         if self.may_be_anew(call, ended, fault) {
@@ -114,8 +127,13 @@ impl Search {
             return Ok(matches!(ended, Ended::Missing));
         }
         let access = self.access_of(fault.object, addr, flags, thread, None);
-        if find(self.kernel.rules.faults(), access.thread).is_none() {
-            self.step(access.seen())?;
+        match find(self.kernel.rules.faults(), access.thread) {
+            None => self.see(access)?,
+            Some(held) if matches!(held.phase, Phase::Asleep) => {
+                self.plan_thread(ThreadTask::See(access))?;
+                self.plan_thread(ThreadTask::WaitNoMore(access))?;
+            }
+            Some(_) => {}
         }
         Ok(true)
     }
@@ -132,7 +150,7 @@ impl Search {
         };
         let (from, until) = (call.begin, fault.end);
         match ended {
-            Ended::Missing => self.may_be_cleared(at, from, until),
+            Ended::Missing => self.may_be_cleared(at, from, fault),
             Ended::Protected => self.may_be_protected(at, fault.page, from, until),
             Ended::Registered => self.index.is_registered(at, from, until),
         }
@@ -159,9 +177,10 @@ impl Search {
         false
     }
 
-    /// Whether a page may be missing anew by a call that ends at a line or after it, and begins before another line: a madvise clears it once its event
-    /// is read.
-    fn may_be_cleared(&self, at: At, from: u32, until: u32) -> bool {
+    /// Whether the page of a fault may be missing anew by a call that ends at a line or after it, and begins before the fault is read: a madvise clears it
+    /// once its event is read.
+    fn may_be_cleared(&self, at: At, from: u32, fault: FaultRead) -> bool {
+        let until = fault.end;
         let madvises = &self.index.cleared;
         let mut first = madvises.first(from);
         for _ in 0..self.log.count() {
@@ -170,10 +189,10 @@ impl Search {
                 return self.index.is_registered_anew(at, from, until);
             };
             let told = match self.log.call(place) {
-                Some(call) => self.told_to_from(&call, at.object),
+                Some(call) => self.told_to(&call, at.object),
                 None => None,
             };
-            if told.is_none_or(|line| line < until) {
+            if told.is_none_or(|told| is_before(told, fault)) {
                 return true;
             }
             first = next;

@@ -281,10 +281,17 @@ impl Kernel {
             self.notes.ended.push((owed, Some(place)))?;
         }
         if self.rules.twice().len() > twice {
-            let waits = self.sleeps_at(call.object(), stopped_at(log, call));
-            self.notes.twice.push(Stopped { call: place, waits })?;
+            self.notes.twice.push(self.stopped(log, place, call))?;
         }
         Ok(made)
+    }
+
+    /// A call has stopped at a page that is there.
+    pub(crate) fn stopped(&self, log: &Log, place: u32, call: &LogCall) -> Stopped {
+        Stopped {
+            call: place,
+            waits: self.sleeps_at(call.object(), stopped_at(log, call)),
+        }
     }
 
     /// Whether a thread has found a page of an object missing, and its fault is read.

@@ -76,8 +76,9 @@ pub(crate) struct Notes {
     pub(crate) unknown: u64,
     /// The faults that nobody has resolved.
     pub(crate) unanswered: Vec<Slept>,
-    /// The calls that stopped at a page which the log had put, and at another one that was there.
+    /// The calls that stopped at a page which the log had put, and at one that was there when it was registered: put before that, or another.
     pub(crate) twice: Vec<Stopped>,
+    pub(crate) put_before: Vec<Stopped>,
     pub(crate) before: Vec<u64>,
     /// The calls on pages that were not registered before they began.
     pub(crate) outside: Vec<u64>,
@@ -98,6 +99,7 @@ impl Notes {
             unknown: 0,
             unanswered: Vec::new(alloc),
             twice: Vec::new(alloc),
+            put_before: Vec::new(alloc),
             before: Vec::new(alloc),
             outside: Vec::new(alloc),
             differs: Vec::new(alloc),
@@ -122,7 +124,6 @@ impl Notes {
 
     /// Adds what a kernel has at the end of a log.
     pub(crate) fn add_last(&mut self, rules: &kernel_rules::Kernel) -> Result<(), NoMemory> {
-        self.before.extend_from_slice(rules.there_before())?;
         self.differs.extend_from_slice(rules.differs())?;
         self.owed_count = rules.owed().len();
         for (place, (space, page)) in rules.owed().iter().enumerate() {

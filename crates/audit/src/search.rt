@@ -6,7 +6,7 @@ pub(crate) mod index;
 pub(crate) mod spans;
 
 use crate::accesses::Shown;
-use crate::cases::one_page;
+use crate::cases::{one_page, stopped_at};
 use crate::history::{Doing, History};
 use crate::kernel::Kernel;
 use crate::needs::Wanted;
@@ -120,7 +120,8 @@ impl Search {
         Ok(())
     }
 
-    /// The calls from a place on begin whose lines are above the end of another call. Returns the place of the first that does not.
+    /// The calls from a place on begin whose lines are not below the end of another call: a line of a descriptor may be the begin and the end of its close.
+    /// Returns the place of the first that does not.
     fn begin_before(&mut self, first: u32, end: u32) -> Result<u32, NoMemory> {
         let until = match self.log.call(end) {
             Some(call) => call.end,
@@ -128,7 +129,7 @@ impl Search {
         };
         for place in first..u32::MAX {
             match self.log.call(place) {
-                Some(call) if call.begin < until => {}
+                Some(call) if call.begin <= until => {}
                 _ => return Ok(place),
             }
             self.begin(place)?;
@@ -267,9 +268,13 @@ impl Search {
             return Ok(What::Refuses(frame.call));
         }
         let outside = self.kernel.rules.outside().len();
+        let before = self.kernel.rules.there_before().len();
         if self.kernel.take(&self.log, frame.call, call)? {
             if self.kernel.rules.outside().len() > outside && !self.is_overtaken(call) {
                 self.kernel.notes.outside.push(u64::from(frame.call))?;
+            }
+            if self.kernel.rules.there_before().len() > before {
+                self.note_before(frame.call, call)?;
             }
             self.note_kind(frame, call);
             return Ok(What::Effect(frame.call));
@@ -282,6 +287,33 @@ impl Search {
         self.refuse(frame.call, reason)?;
         self.kernel.force(&self.log, frame.call, call)?;
         Ok(What::Effect(frame.call))
+    }
+
+    /// A call has stopped at a page that was there when it was registered.
+    fn note_before(&mut self, place: u32, call: &LogCall) -> Result<(), NoMemory> {
+        if self.had_put(place, call) {
+            let stopped = self.kernel.stopped(&self.log, place, call);
+            self.kernel.notes.put_before.push(stopped)?;
+        } else {
+            self.kernel.notes.before.push(u64::from(place))?;
+        }
+        Ok(())
+    }
+
+    /// Whether another call had put the page at which one has stopped, and nothing took it away.
+    fn had_put(&self, place: u32, call: &LogCall) -> bool {
+        let page = stopped_at(&self.log, call);
+        let Some(object) = call.object() else {
+            return false;
+        };
+        let (Some(put), Some(space)) = (
+            self.index.next_put(place, object, page, 0),
+            self.kernel.space_of(object),
+        ) else {
+            return false;
+        };
+        let addr = self.log.size.address(page);
+        put.end < call.begin && !self.index.is_taken(space, addr, put.end, call.end)
     }
 
     /// Whether a page of a call may have lost its registration while the call lasted: its monitor could not know that.

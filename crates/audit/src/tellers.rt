@@ -12,6 +12,14 @@ use uffd_log::{Call, Message};
 /// MAP_FIXED.
 const FIXED: u64 = 0x10;
 
+/// A read of an event of a map call, with the line where it begins, and the place of the event among its messages.
+#[derive(Clone, Copy)]
+pub(crate) struct Told {
+    pub(crate) call: u32,
+    pub(crate) begin: u32,
+    pub(crate) message: u32,
+}
+
 /// Whether an address is that of the pages that a call moves.
 fn moves_from(call: &LogCall, from: u64) -> bool {
     match call.call {
@@ -98,8 +106,8 @@ impl Search {
             let is_changed = area.space == u64::from(call.space)
                 && area.range.common(range).count > 0;
             if is_changed {
-                if let Some(line) = self.told_to_from(call, area.object) {
-                    return Ok(Some(line));
+                if let Some(told) = self.told_to(call, area.object) {
+                    return Ok(Some(told.begin));
                 }
             }
         }
@@ -107,17 +115,20 @@ impl Search {
     }
 
     /// The same of an object.
-    pub(crate) fn told_to_from(&self, call: &LogCall, object: u64) -> Option<u32> {
+    pub(crate) fn told_to(&self, call: &LogCall, object: u64) -> Option<Told> {
         let first = self.index.first_read(object, self.line);
         for place in first..first.saturating_add(NEAR as usize) {
             let read = self.read_at(object, place)?;
+            if read.done {
+                continue;
+            }
             let messages = self.log.messages_of(&read);
-            if !read.done
-                && messages
-                    .iter()
-                    .any(|message| self.may_tell(call, object, *message))
-            {
-                return Some(read.begin);
+            if let Some(at) = messages.iter().position(|one| self.may_tell(call, object, *one)) {
+                return Some(Told {
+                    call: self.index.reads.get(place)?.call,
+                    begin: read.begin,
+                    message: u32::try_from(at).unwrap_or(u32::MAX),
+                });
             }
         }
         None

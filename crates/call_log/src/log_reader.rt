@@ -229,9 +229,9 @@ impl LogReader {
         let Some(line) = line else {
             return Ok(());
         };
-        let opens = self.calls.is_new(&line);
+        let stands = self.calls.is_call(&line);
         let number = self.line;
-        self.entries.take(LogLine { number, line }, opens)
+        self.entries.take(LogLine { number, line }, stands)
     }
 
     /// The first entry that was added after this number of them, if any was.

@@ -197,6 +197,17 @@ impl ProcessTable {
         false
     }
 
+    /// Whether a descriptor is the last one of its object, and no close of it is under way.
+    pub(crate) fn is_last(&self, pid: u32, on: Descriptor) -> bool {
+        let own = binding(pid, on);
+        for (key, _) in self.bound.iter() {
+            if key.object == on.object && *key != own {
+                return false;
+            }
+        }
+        self.is_bound(pid, on) && !self.is_closing(pid, on.fd)
+    }
+
     /// Whether an object was in the log.
     pub(crate) fn is_known(&self, object: u64) -> bool {
         self.objects.contains(&object)

@@ -74,10 +74,11 @@ impl CallReader {
         }
     }
 
-    /// Whether a line is of a descriptor that was found, of an object that no line above names.
-    pub(crate) fn is_new(&self, line: &Line) -> bool {
+    /// Whether a line stands for a call that the recorder did not see: an object is found that no line above names, or the last descriptor of one is gone.
+    pub(crate) fn is_call(&self, line: &Line) -> bool {
         match line {
             Line::Found { on, .. } => !self.processes.is_known(on.object),
+            Line::Dropped { stamp, on } => self.processes.is_last(stamp.pid, *on),
             _ => false,
         }
     }
@@ -155,7 +156,7 @@ impl CallReader {
                 ..
             } => self.take_run(stamp, number, Run { start, len, bits }),
             Line::Found { on, .. } => self.take_found(stamp.pid, on),
-            Line::Dropped { on, .. } => self.take_dropped(stamp.pid, on),
+            Line::Dropped { on, .. } => self.take_dropped(stamp, on),
             Line::Started { .. } | Line::Forked { .. } => {
                 self.take_renewed(stamp.pid)?;
                 Ok(())
@@ -196,15 +197,20 @@ impl CallReader {
 
     // Calls
 
-    fn take_begin(&mut self, stamp: Stamp, number: u64, call: Call) -> Result<(), Fault> {
-        let open = OpenCall {
+    /// A call that begins with the line that is read.
+    fn opened(&self, stamp: Stamp, call: Call) -> Result<OpenCall, NoMemory> {
+        Ok(OpenCall {
             call,
             place: narrow(self.table.places.len())?,
             line: self.line,
             tid: stamp.tid,
             found: 0,
             above: 0,
-        };
+        })
+    }
+
+    fn take_begin(&mut self, stamp: Stamp, number: u64, call: Call) -> Result<(), Fault> {
+        let open = self.opened(stamp, call)?;
         let wrong = self.processes.begin(stamp.pid, number, open)?;
         self.table.last_line = self.line;
         self.table.add(self.entry, stamp)?;
@@ -397,9 +403,12 @@ impl CallReader {
         Ok(())
     }
 
-    fn take_dropped(&mut self, pid: u32, on: Descriptor) -> Result<(), Fault> {
-        let is_bound = self.processes.is_bound(pid, on);
-        self.processes.drop_all(pid, on);
+    fn take_dropped(&mut self, stamp: Stamp, on: Descriptor) -> Result<(), Fault> {
+        let is_bound = self.processes.is_bound(stamp.pid, on);
+        self.processes.drop_all(stamp.pid, on);
+        if let Some(entry) = self.entry {
+            self.add_close(stamp, on, entry)?;
+        }
         if is_bound {
             return Ok(());
         }
@@ -407,6 +416,18 @@ impl CallReader {
             fd: on.fd,
             object: on.object,
         }))
+    }
+
+    /// The last descriptor of an object is gone, by a close that begins in an entry and ends in the next.
+    fn add_close(&mut self, stamp: Stamp, on: Descriptor, entry: u32) -> Result<(), NoMemory> {
+        let open = self.opened(stamp, Call::Close { on })?;
+        let ended = LogCall {
+            ending: entry.checked_add(1),
+            ..self.ended(open, stamp, Answer::Done)
+        };
+        self.table.last_line = self.line;
+        self.table.add(self.entry, stamp)?;
+        self.table.end(open.place, &ended)
     }
 }
 

@@ -1,6 +1,6 @@
 -- UFFDIO_API, UFFDIO_REGISTER and UFFDIO_UNREGISTER.
 use Rattle.std.proofs.lemmas.Bool.Decides.{nat_tests}
-use Rattle.std.proofs.lemmas.Bool.{and_from, false≢true}
+use Rattle.std.proofs.lemmas.Bool.{false≢true}
 use Rattle.std.proofs.lemmas.List.Folds.{list_any-append}
 use Rattle.std.specs.List.{list_any}
 use Rattle.std.proofs.Common.{◌≡◌, ℕ, zero, suc, ◌+◌, ◌/◌, ◌<◌, ◌^◌, ◌&&◌, ◌||◌, Bool, true, false, not, cond, eqb, ltb, leb, Option, Some, None, List, [], ◌∷◌, ◌++◌, arith, refl, sym, ap, subst, ◌∙◌}
@@ -209,9 +209,6 @@ modes-left space first count page mode sound outside = (grind (arith, nat_tests,
 guarded-left : (space : Space) (first count page : ℕ) (mode : Mode) → contains (registered_in space first count mode).protected page ≡ true → contains space.protected page ≡ true
 guarded-left space first count page mode guarded = grind (arith, nat_tests, member_below)
 
-guarded-mode : (space : Space) (first count page : ℕ) (mode : Mode) → in_range first count page ≡ true → contains_key space.host.areas page ≡ true → has_modes space.object page mode ≡ false → contains (registered_in space first count mode).protected page ≡ true → mode.protect ≡ true
-guarded-mode space first count page mode inside mapped not_all guarded = grind (arith, nat_tests, member_below)
-
 some-mode : (m p : Bool) → (m || p) ≡ true → (a b : Bool) → (a || b) ≡ false → ((not m || a) && (not p || b)) ≡ false
 some-mode m p some a b none = grind (arith, nat_tests)
 
@@ -237,7 +234,7 @@ whole-known missing Poisoned h = h
 
 -- a page that the object had registered: it keeps its modes if it has all, or else has those
 page-again : (space : Space) (first count name page : ℕ) (mode : Mode) (all : Bool) (one : Page) → IsSoundSpace space → (mode.missing || mode.protect) ≡ true → in_range first count page ≡ true → contains_key space.host.areas page ≡ true → IsPage space name page one →
-    has_modes space.object page mode ≡ all → IsPage (registered_in space first count mode) name page (cond all one (record one { missing = mode.missing; protect = mode.protect; minor = false; presence = known_as mode.missing one.presence; guarded = one.guarded && mode.protect }))
+    has_modes space.object page mode ≡ all → IsPage (registered_in space first count mode) name page (cond all one (record one { missing = mode.missing; protect = mode.protect; minor = false; presence = known_as mode.missing one.presence }))
 page-again space first count name page mode true one sound some inside mapped agrees all =
     let modes = modes-of space first count page mode inside mapped (below_high space page sound mapped) in
     let missing = modes.0 ∙ ap (λ b. cond b (contains space.object.missing page) mode.missing) all in
@@ -266,7 +263,7 @@ page-again space first count name page mode false one sound some inside mapped a
       present = λ there. agrees.present (present-known mode.missing one.presence there);
       whole = whole-known mode.missing one.presence agrees.whole;
       plain = refl;
-      guarded = λ guarded. and_from one.guarded mode.protect (agrees.guarded (guarded-left space first count page mode guarded)) (guarded-mode space first count page mode inside mapped all guarded);
+      guarded = λ guarded. agrees.guarded (guarded-left space first count page mode guarded);
     }
 
 page-registered : (space : Space) (first count name page : ℕ) (mode : Mode) (b : Bool) (found : Option Page) → IsSoundSpace space → (mode.missing || mode.protect) ≡ true → in_range first count page ≡ b → (b ≡ true → contains_key space.host.areas page ≡ true) →

@@ -60,18 +60,11 @@ mode_of bits = record { missing = is_one bits 0; protect = is_one bits 1 }
 abbrev pub known_as : Bool → Presence → Presence
 known_as missing presence = if is_missing presence && not missing then Unknown else presence
 
--- a page once it is registered: one that has all modes asked for keeps its own
+-- a page once it is registered: one that has all modes asked for keeps its own. Its protection stays, also where nobody is told of it
 abbrev pub with_mode : Mode → Bool → Page → Page
 with_mode mode minor page =
     if (not minor || page.minor) && ((not mode.missing || page.missing) && (not mode.protect || page.protect)) then page
-    else
-    record page {
-      missing = mode.missing;
-      protect = mode.protect;
-      minor = minor;
-      presence = known_as mode.missing page.presence;
-      guarded = page.guarded && mode.protect;
-    }
+    else record page { missing = mode.missing; protect = mode.protect; minor = minor; presence = known_as mode.missing page.presence }
 
 -- a page once an object has registered it in this mode: nothing is known of its presence, if it was not registered before, nor whether
 -- MADV_FREE was called for it

@@ -92,7 +92,6 @@ fn registered(page: Option<Page>, object: u64, missing: bool, protect: bool, min
                     missing,
                     protect,
                     minor,
-                    guarded: page.guarded && protect,
                     ..page
                 };
                 Page {

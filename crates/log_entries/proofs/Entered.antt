@@ -17,7 +17,7 @@ use Rattle.foundation.specs.Tests.{is_empty}
 use Rattle.kernel_rules.specs.Runs.{Event, Outcome, begins, ends}
 use Rattle.log_entries.specs.declared.log_line.LogLine.{LogLine}
 use Rattle.log_entries.specs.declared.entry_reader.EntryReader.{EntryReader}
-use Rattle.log_entries.specs.Events.{is_map_call, is_new_program, is_of, program_of, is_read_line, after_some, with_line, lines_of, outcome_from, said, said_of, made_by, opening, AreOwn, AreEvents}
+use Rattle.log_entries.specs.Events.{is_map_call, is_new_program, is_of, program_of, is_read_line, after_some, with_line, lines_of, outcome_from, said, said_of, made_by, standing, unseen, AreOwn, AreEvents}
 use Rattle.log_entries.specs.Readers.{others, own, onto, program_in, Has, HasRead}
 use Rattle.log_entries.specs.Stores.{settled, settled_at, settled_event}
 use Rattle.log_entries.proofs.Calls.{own_begun, own_others, own_push, same_call}
@@ -195,36 +195,11 @@ passed lines old new one events of o whole runs entries kept has = λ w.
     ap (λ (l : List LogLine). own pid m l) kept ∙ ap (λ (b : Bool). if b then with_line one one.line (own pid m old.kept.items) else own pid m old.kept.items) (sym (of pid m)))
     runs
 
--- An object is found
-
-pub found_old : (lines : List LogLine) (old new : EntryReader) (one : LogLine) (stamp : Stamp) (on : Descriptor) → one.line ≡ line.Found stamp on → new ≡ old → HasRead lines old → HasRead (lines ++ one ∷ []) new
-found_old lines old new one stamp on is same has =
-    passed lines old new one [] (λ pid n. ap (λ (l : Line). is_of pid n l) is) (let P : Line → Type 0 = λ l. AreOwn (onto lines []) one.number l [] in subst P (sym is) (inl refl)) (ap (λ (r : EntryReader). r.whole) same)
-    (still_run old new one (λ pid. ap (is_new_program pid) is) (ap (λ (r : EntryReader). r.programs) same))
-    (ap (λ (r : EntryReader). map said_of r.entries) same ∙ sym (append-nil (map said_of old.entries))) (ap (λ (r : EntryReader). r.kept.items) same) has
-
-pub found_new : (lines : List LogLine) (old mid new : EntryReader) (one : LogLine) (stamp : Stamp) (on : Descriptor) (made : Made) → one.line ≡ line.Found stamp on → made ≡ made_by one.number stamp 0 (call.Open false 2048)
-    → mid ≡ record old { entries = mid.entries } → new ≡ record mid { entries = new.entries } → mid.entries ≡ old.entries ++ begins made ∷ []
-    → new.entries ≡ mid.entries ++ ends one.number (record { answer = answer.Opened on; messages = []; runs = [] }) ∷ [] → HasRead lines old → HasRead (lines ++ one ∷ []) new
-found_new lines old mid new one stamp on made is by first second begins_is ends_is has =
-    let events : List Event = opening one.number stamp on in
-    let opened : Event = ends one.number (record { answer = answer.Opened on; messages = []; runs = [] }) in
-    let whole : new.whole ≡ old.whole = ap (λ (r : EntryReader). r.whole) second ∙ ap (λ (r : EntryReader). r.whole) first in
-    let kept : new.kept.items ≡ old.kept.items = ap (λ (r : EntryReader). r.kept.items) second ∙ ap (λ (r : EntryReader). r.kept.items) first in
-    let front : map said_of mid.entries ≡ map said_of old.entries ++ begins (made_by one.number stamp 0 (call.Open false 2048)) ∷ [] =
-    ap (λ (l : List Event). map said_of l) begins_is ∙ events_more old.entries (begins made) ∙ ap (λ (m : Made). map said_of old.entries ++ begins (said m) ∷ []) by
-    in
-    let all : map said_of new.entries ≡ map said_of old.entries ++ events =
-    ap (λ (l : List Event). map said_of l) ends_is ∙ events_more mid.entries opened ∙ ap (λ (l : List Event). l ++ opened ∷ []) front
-    ∙ append_assoc (map said_of old.entries) (begins (made_by one.number stamp 0 (call.Open false 2048)) ∷ []) (opened ∷ [])
-    in
-    passed lines old new one events (λ pid n. ap (λ (l : Line). is_of pid n l) is) (let P : Line → Type 0 = λ l. AreOwn (onto lines []) one.number l events in subst P (sym is) (inr refl)) whole
-    (still_run old new one (λ pid. ap (is_new_program pid) is) (ap (λ (r : EntryReader). r.programs) second ∙ ap (λ (r : EntryReader). r.programs) first)) all kept has
-
 -- Another line
 
--- whether a line says nothing of calls
+-- whether a line is of no call that another line shows
 abbrev pub is_other : Line → Bool
+is_other (line.Found stamp on) = true
 is_other (line.Dropped stamp on) = true
 is_other (line.Exit stamp) = true
 is_other _ = false
@@ -234,7 +209,7 @@ other_of (line.Begin stamp k c) pid n e = absurd (cc)
 other_of (line.End stamp k a) pid n e = absurd (cc)
 other_of (line.Read stamp k message) pid n e = absurd (cc)
 other_of (line.Have stamp k start len bits) pid n e = absurd (cc)
-other_of (line.Found stamp on) pid n e = absurd (cc)
+other_of (line.Found stamp on) pid n e = refl
 other_of (line.Dropped stamp on) pid n e = refl
 other_of (line.Started stamp parent) pid n e = absurd (cc)
 other_of (line.Forked stamp parent) pid n e = absurd (cc)
@@ -246,8 +221,8 @@ other_own (line.Begin stamp k c) above number e = absurd (cc)
 other_own (line.End stamp k a) above number e = absurd (cc)
 other_own (line.Read stamp k message) above number e = absurd (cc)
 other_own (line.Have stamp k start len bits) above number e = absurd (cc)
-other_own (line.Found stamp on) above number e = absurd (cc)
-other_own (line.Dropped stamp on) above number e = refl
+other_own (line.Found stamp on) above number e = inl refl
+other_own (line.Dropped stamp on) above number e = inl refl
 other_own (line.Started stamp parent) above number e = absurd (cc)
 other_own (line.Forked stamp parent) above number e = absurd (cc)
 other_own (line.Exit stamp) above number e = refl
@@ -258,7 +233,7 @@ other_program (line.Begin stamp k c) pid e = absurd (cc)
 other_program (line.End stamp k a) pid e = absurd (cc)
 other_program (line.Read stamp k message) pid e = absurd (cc)
 other_program (line.Have stamp k start len bits) pid e = absurd (cc)
-other_program (line.Found stamp on) pid e = absurd (cc)
+other_program (line.Found stamp on) pid e = refl
 other_program (line.Dropped stamp on) pid e = refl
 other_program (line.Started stamp parent) pid e = absurd (cc)
 other_program (line.Forked stamp parent) pid e = absurd (cc)
@@ -269,6 +244,51 @@ pub other : (lines : List LogLine) (old : EntryReader) (one : LogLine) → is_ot
 other lines old one is has =
     passed lines old old one [] (λ pid n. other_of one.line pid n is) (other_own one.line (onto lines []) one.number is) refl
     (still_run old old one (λ pid. other_program one.line pid is) refl) (sym (append-nil (map said_of old.entries))) refl has
+
+-- A line stands for a call that no line shows
+
+stands_other : (l : Line) (number : ℕ) (s : Stamp) (d : Call) (b : Answer) → standing number l ≡ unseen number s d b → is_other l ≡ true
+stands_other (line.Begin stamp k c) number s d b e = absurd (cc)
+stands_other (line.End stamp k a) number s d b e = absurd (cc)
+stands_other (line.Read stamp k message) number s d b e = absurd (cc)
+stands_other (line.Have stamp k start len bits) number s d b e = absurd (cc)
+stands_other (line.Found stamp on) number s d b e = refl
+stands_other (line.Dropped stamp on) number s d b e = refl
+stands_other (line.Started stamp parent) number s d b e = absurd (cc)
+stands_other (line.Forked stamp parent) number s d b e = absurd (cc)
+stands_other (line.Exit stamp) number s d b e = absurd (cc)
+stands_other (line.Lost count) number s d b e = absurd (cc)
+
+stands_own : (l : Line) (above : List LogLine) (number : ℕ) (s : Stamp) (d : Call) (b : Answer) → standing number l ≡ unseen number s d b → AreOwn above number l (unseen number s d b)
+stands_own (line.Begin stamp k c) above number s d b e = absurd (cc)
+stands_own (line.End stamp k a) above number s d b e = absurd (cc)
+stands_own (line.Read stamp k message) above number s d b e = absurd (cc)
+stands_own (line.Have stamp k start len bits) above number s d b e = absurd (cc)
+stands_own (line.Found stamp on) above number s d b e = inr (sym e)
+stands_own (line.Dropped stamp on) above number s d b e = inr (sym e)
+stands_own (line.Started stamp parent) above number s d b e = absurd (cc)
+stands_own (line.Forked stamp parent) above number s d b e = absurd (cc)
+stands_own (line.Exit stamp) above number s d b e = absurd (cc)
+stands_own (line.Lost count) above number s d b e = absurd (cc)
+
+pub stood : (lines : List LogLine) (old mid new : EntryReader) (one : LogLine) (stamp : Stamp) (c : Call) (a : Answer) (made : Made) → standing one.number one.line ≡ unseen one.number stamp c a → made ≡ made_by one.number stamp 0 c
+    → mid ≡ record old { entries = mid.entries } → new ≡ record mid { entries = new.entries } → mid.entries ≡ old.entries ++ begins made ∷ []
+    → new.entries ≡ mid.entries ++ ends one.number (record { answer = a; messages = []; runs = [] }) ∷ [] → HasRead lines old → HasRead (lines ++ one ∷ []) new
+stood lines old mid new one stamp c a made is by first second begins_is ends_is has =
+    let events : List Event = unseen one.number stamp c a in
+    let ended : Event = ends one.number (record { answer = a; messages = []; runs = [] }) in
+    let whole : new.whole ≡ old.whole = ap (λ (r : EntryReader). r.whole) second ∙ ap (λ (r : EntryReader). r.whole) first in
+    let kept : new.kept.items ≡ old.kept.items = ap (λ (r : EntryReader). r.kept.items) second ∙ ap (λ (r : EntryReader). r.kept.items) first in
+    let front : map said_of mid.entries ≡ map said_of old.entries ++ begins (said (made_by one.number stamp 0 c)) ∷ [] =
+    ap (λ (l : List Event). map said_of l) begins_is ∙ events_more old.entries (begins made) ∙ ap (λ (m : Made). map said_of old.entries ++ begins (said m) ∷ []) by
+    in
+    let all : map said_of new.entries ≡ map said_of old.entries ++ events =
+    ap (λ (l : List Event). map said_of l) ends_is ∙ events_more mid.entries ended ∙ ap (λ (l : List Event). l ++ ended ∷ []) front
+    ∙ append_assoc (map said_of old.entries) (begins (said (made_by one.number stamp 0 c)) ∷ []) (ended ∷ [])
+    in
+    let o : is_other one.line ≡ true = stands_other one.line one.number stamp c a is in
+    passed lines old new one events (λ pid n. other_of one.line pid n o) (stands_own one.line (onto lines []) one.number stamp c a is) whole
+    (still_run old new one (λ pid. other_program one.line pid o) (ap (λ (r : EntryReader). r.programs) second ∙ ap (λ (r : EntryReader). r.programs) first)) all kept has
 
 -- A process begins, or begins another program
 

@@ -92,16 +92,23 @@ program_of (one ∷ above) pid = if is_new_program pid one.line then one.number 
 abbrev pub made_by : ℕ → Stamp → ℕ → Call → Made
 made_by number stamp program c = record { key = number; space = stamp.pid; thread = stamp.tid; program = program; call = c; last = false }
 
--- userfaultfd(2) with O_NONBLOCK, which a line does not show that meets its object first: no line says which program made it
-abbrev pub opening : ℕ → Stamp → Descriptor → List Event
-opening number stamp on = begins (made_by number stamp 0 (call.Open false 2048)) ∷ ends number (record { answer = answer.Opened on; messages = []; runs = [] }) ∷ []
+-- a call that no line shows, and its answer: no line says which program made it
+abbrev pub unseen : ℕ → Stamp → Call → Answer → List Event
+unseen number stamp c a = begins (said (made_by number stamp 0 c)) ∷ ends number (record { answer = a; messages = []; runs = [] }) ∷ []
 
--- the events of a line. A call ends that has begun above it, and no line is lost. An object that was found may have been opened there
+-- the call that a line may stand for: userfaultfd(2) with O_NONBLOCK where its object is met first, and close(2) where a descriptor is gone
+abbrev pub standing : ℕ → Line → List Event
+standing number (line.Found stamp on) = unseen number stamp (call.Open false 2048) (answer.Opened on)
+standing number (line.Dropped stamp on) = unseen number stamp (call.Close on) answer.Done
+standing number _ = []
+
+-- the events of a line. A call ends that has begun above it, and no line is lost. A line of a descriptor may stand for a call
 abbrev pub AreOwn : List LogLine → ℕ → Line → List Event → Type 0
 AreOwn above number (line.Begin stamp n c) own = own ≡ begins (said (made_by number stamp (program_of above stamp.pid) c)) ∷ []
 AreOwn above number (line.End stamp n a) own =
     (first : LogLine) × (rest : List LogLine) × (lines_of above stamp.pid n ≡ first ∷ rest) × (own ≡ ends first.number (outcome_from (first ∷ rest) a) ∷ [])
-AreOwn above number (line.Found stamp on) own = (own ≡ []) ⊎ (own ≡ opening number stamp on)
+AreOwn above number (line.Found stamp on) own = (own ≡ []) ⊎ (own ≡ standing number (line.Found stamp on))
+AreOwn above number (line.Dropped stamp on) own = (own ≡ []) ⊎ (own ≡ standing number (line.Dropped stamp on))
 AreOwn above number (line.Lost count) own = ⊥
 AreOwn above number _ own = own ≡ []
 

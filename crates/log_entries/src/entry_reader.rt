@@ -4,7 +4,7 @@ ghost use Rattle.std.specs.Prelude.{◌≡◌, ◌==◌, ◌++◌, ◌∷◌, []
 ghost use Rattle.foundation.specs.Tests.{is_empty};
 ghost use Rattle.uffd_log.specs.declared.line.Line.TheVariants as line;
 ghost use Rattle.log_entries.specs.declared.log_line.LogLine.{LogLine as LogLineOf};
-ghost use Rattle.log_entries.specs.Events.{is_new_program, is_of, is_read_line, made_by, message_in, run_in};
+ghost use Rattle.log_entries.specs.Events.{is_new_program, is_of, is_read_line, made_by, message_in, run_in, standing, unseen};
 ghost use Rattle.log_entries.specs.Readers.{others, own, program_in, HasRead};
 
 use crate::log_line::{LogLine, is_of, message_in, run_in};
@@ -13,7 +13,7 @@ use foundation::NoMemory;
 use indexmap::IndexMap;
 use kernel_rules::{Made, Run};
 use std::alloc::Global;
-use uffd_log::{Answer, Call, Descriptor, Line, Message, Stamp};
+use uffd_log::{Answer, Call, Line, Message, Stamp};
 
 /// O_NONBLOCK.
 const NONBLOCK: u64 = 2048;
@@ -208,34 +208,26 @@ impl EntryReader {
         Ok(())
     }
 
-    /// A descriptor is met first here. If its object is new, it was opened before.
-    fn find(
+    /// A line stands for a call that no line shows.
+    fn stand_for(
         &mut self,
         one: LogLine,
         stamp: Stamp,
-        on: Descriptor,
-        opens: bool,
+        call: Call,
+        answer: Answer,
     ) -> Result<(), NoMemory>
-        requires { one.line ≡ line.Found stamp on }
+        requires { standing one.number one.line ≡ unseen one.number stamp call answer }
         ensures { OnOk result ((lines : List LogLineOf) →
             HasRead lines self.old → HasRead (lines ++ one ∷ []) self.new) }
     {
-        if !opens {
-            return Ok(());
-        }
-        let call = Call::Open {
-            device: false,
-            flags: NONBLOCK,
-        };
         self.entries
             .push_begin(made_by(one.number, stamp, 0, call))?;
-        self.entries
-            .push_end(one.number, Answer::Opened(on), &[], &[])
+        self.entries.push_end(one.number, answer, &[], &[])
     }
 
-    /// Takes the next line. Where it is a descriptor that was found, `opens` says whether it stands for the opening of its object. After
-    /// `NoMemory` the reader is not to be used.
-    pub fn take(&mut self, one: LogLine, opens: bool) -> Result<(), NoMemory>
+    /// Takes the next line. Where it is of a descriptor that was found or dropped, `stands` says whether it stands for the opening or the close of its
+    /// object. After `NoMemory` the reader is not to be used.
+    pub fn take(&mut self, one: LogLine, stands: bool) -> Result<(), NoMemory>
         ensures { OnOk result ((lines : List LogLineOf) →
             HasRead lines self.old → HasRead (lines ++ one ∷ []) self.new) }
     {
@@ -252,14 +244,23 @@ impl EntryReader {
             } => self.end(one, stamp, number, answer),
             Line::Read { stamp, number, .. } => self.read(one, stamp.pid, number),
             Line::Have { stamp, number, .. } => self.read(one, stamp.pid, number),
-            Line::Found { stamp, on } => self.find(one, stamp, on, opens),
+            Line::Found { stamp, on } if stands => {
+                let call = Call::Open {
+                    device: false,
+                    flags: NONBLOCK,
+                };
+                self.stand_for(one, stamp, call, Answer::Opened(on))
+            }
+            Line::Dropped { stamp, on } if stands => {
+                self.stand_for(one, stamp, Call::Close { on }, Answer::Done)
+            }
             Line::Lost(_) => {
                 self.whole = false;
                 Ok(())
             }
             Line::Started { stamp, .. } => self.renew(one, stamp.pid),
             Line::Forked { stamp, .. } => self.renew(one, stamp.pid),
-            Line::Dropped { .. } | Line::Exit { .. } => Ok(()),
+            Line::Found { .. } | Line::Dropped { .. } | Line::Exit { .. } => Ok(()),
         }
     }
 

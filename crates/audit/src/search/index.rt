@@ -215,6 +215,12 @@ impl Index {
         self.is_gone(at, from, until) && self.is_registered(at, from, until)
     }
 
+    /// The same of map calls that take its bytes away.
+    pub(crate) fn is_taken(&self, space: u32, addr: u64, from: u32, until: u32) -> bool {
+        let of = Of::Space(space);
+        self.cleared.has(of, addr, from, until) || self.gone.has(of, addr, from, until)
+    }
+
     /// The same of calls that make it missing: it is cleared, or registered anew.
     pub(crate) fn is_cleared(&self, at: At, from: u32, until: u32) -> bool {
         self.cleared.has(Of::Space(at.space), at.addr, from, until)
