@@ -4,7 +4,7 @@
  *
  *     pages touches           of the guest; each of its three threads makes `touches`
  *     room                    the most messages that a read takes
- *     events                  whether map calls are told of
+ *     events                  whether the object asks for events
  *     protect                 1: pages are registered for protection too; 2: for that alone
  *     unpopulated             whether missing pages are protected
  *     dontneed free unmap     what the mapper does with pages; renew: it ends their registration and begins it again; move: it moves all of them, and stay

@@ -53,7 +53,8 @@ pub(crate) enum ThreadTask {
     Touch(Access),
     /// The same, once its page may be missing.
     Queue(Access),
-    /// An event of a map call is queued: of those under way that may tell it the one that ends first takes effect, or the next, or all.
+    /// An event of a map call is queued: of those under way that may tell it the one that ends first takes effect, or the next, or all, and their other events
+    /// are read.
     Announce { object: u64, message: Message },
     /// The same, once the map call took effect.
     Tell { object: u64, message: Message },
@@ -120,7 +121,7 @@ impl Search {
         read: Option<u32>,
     ) -> Access {
         let page = self.log.size.number(addr);
-        let features = match self.kernel.object(object) {
+        let features = match self.kernel.rules.object(object) {
             Some(found) => found.features.unwrap_or(0),
             None => 0,
         };
@@ -176,20 +177,22 @@ impl Search {
         let Some(object) = call.object() else {
             return Ok(());
         };
-        if matches!(call.errno(), Some(Errno::Eagain)) {
-            self.drain(object, read)?;
-            return self.plan(others(Wanted::Waiting(object)));
-        }
-        if call.is_ok() {
-            let next = self.taken(read);
-            self.plan_thread(ThreadTask::Show { read, next })
-        } else {
-            Ok(())
+        let next = self.taken(read);
+        match call.errno() {
+            Some(Errno::Eagain) => self.find_empty(object, read),
+            _ if call.is_ok() => self.plan_thread(ThreadTask::Show { read, next }),
+            _ => Ok(()),
         }
     }
 
+    /// A call finds that nothing waits to be read: the reads under way that return what does take effect, and what is left goes.
+    pub(crate) fn find_empty(&mut self, object: u64, call: u32) -> Result<(), NoMemory> {
+        self.drain(object, call)?;
+        self.plan(others(Wanted::Waiting(object)))
+    }
+
     /// The unread faults of an object go, but those that a call has shown.
-    pub(crate) fn drain(&mut self, object: u64, read: u32) -> Result<(), NoMemory> {
+    fn drain(&mut self, object: u64, read: u32) -> Result<(), NoMemory> {
         let thread = NOBODY;
         self.plan_thread(ThreadTask::Pass {
             object,
@@ -370,9 +373,7 @@ impl Search {
     /// Whether a thread could see its page, or had seen it, and has queued its fault.
     pub(crate) fn queue(&mut self, access: Access) -> Result<bool, NoMemory> {
         let thread = access.thread;
-        if find(self.kernel.rules.faults(), thread).is_none() && !self.step(access.seen())? {
-            return Ok(false);
-        }
+        self.see(access)?;
         match find(self.kernel.rules.faults(), thread) {
             Some(fault) if matches!(fault.phase, Phase::Seen) => self.step(Move::Queues { thread }),
             _ => Ok(false),
@@ -388,6 +389,7 @@ impl Search {
             return self.plan(Task::Settle(call));
         }
         self.plan_thread(ThreadTask::Tell { object, message })?;
+        self.plan(others(Wanted::Events))?;
         self.plan(others(Wanted::Tellers))
     }
 

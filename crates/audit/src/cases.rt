@@ -139,7 +139,7 @@ fn twice_case(log: &Log, twice: &Twice) -> Option<Case> {
 
 /// A fault that a call has read.
 fn fault_case(log: &Log, rule: Rule, slept: &Slept) -> Option<Case> {
-    let read = call_at(log, slept.read)?;
+    let read = log.call(slept.read)?;
     let until = match slept.by.and_then(|place| log.call(place)) {
         Some(by) => end_of(&by),
         None => None,
@@ -147,9 +147,9 @@ fn fault_case(log: &Log, rule: Rule, slept: &Slept) -> Option<Case> {
     Some(Case {
         word: "fault",
         process: slept.space,
-        thread: named_thread(slept.fault.thread),
-        range: Some(one_page(slept.fault.page)),
-        flags: Some(slept.fault.flags),
+        thread: named_thread(slept.thread),
+        range: Some(one_page(slept.page)),
+        flags: Some(slept.flags),
         since: end_of(&read),
         until,
         ..call_case(log, rule, &read)
@@ -229,34 +229,6 @@ fn is_owed(owed: &Owed, again: &Again) -> bool {
     owed.space == u64::from(again.space) && owed.range.contains(again.page)
 }
 
-/// Where owed pages are among others.
-fn order_of(owed: &Owed) -> (u32, u64, u64) {
-    (owed.call.unwrap_or(u32::MAX), owed.space, owed.range.first)
-}
-
-/// Whether one range of owed pages follows another.
-fn follows(owed: &Owed, last: &Owed) -> bool {
-    owed.call == last.call && owed.space == last.space && owed.range.first == last.range.end()
-}
-
-/// Ranges of owed pages, with neighbours joined.
-fn joined(alloc: Global, owed: &[Owed]) -> Result<Vec<Owed>, NoMemory> {
-    let mut sorted = Vec::new(alloc);
-    sorted.extend_from_slice(owed)?;
-    sorted.sort_by_key(order_of)?;
-    let mut joined: Vec<Owed> = Vec::new(alloc);
-    for owed in &sorted {
-        if let Some(last) = joined.last_mut() {
-            if follows(owed, last) {
-                last.range.count = last.range.count.saturating_add(owed.range.count);
-                continue;
-            }
-        }
-        joined.push(*owed)?;
-    }
-    Ok(joined)
-}
-
 /// Adds a case, if there is one.
 fn add(cases: &mut Vec<Case>, case: Option<Case>) -> Result<(), NoMemory> {
     if let Some(case) = case {
@@ -310,14 +282,14 @@ fn add_faults(
 }
 
 /// Adds the pages that were left missing, and the calls that were refused for one of them.
-fn add_owed(cases: &mut Vec<Case>, alloc: Global, judged: &Judged) -> Result<(), NoMemory> {
-    let owed = joined(alloc, &judged.notes.owed)?;
+fn add_owed(cases: &mut Vec<Case>, judged: &Judged) -> Result<(), NoMemory> {
+    let owed = &judged.notes.owed;
     for again in &judged.notes.again {
         if owed.iter().any(|owed| is_owed(owed, again)) {
             add(cases, again_case(&judged.log, again))?;
         }
     }
-    for owed in &owed {
+    for owed in owed {
         add(cases, owed_case(judged, owed))?;
     }
     Ok(())
@@ -338,6 +310,6 @@ pub(crate) fn list_cases(
     for untold in &judged.notes.untold {
         add(&mut cases, untold_case(&judged.log, untold))?;
     }
-    add_owed(&mut cases, alloc, judged)?;
+    add_owed(&mut cases, judged)?;
     Ok(cases)
 }

@@ -7,9 +7,8 @@ use crate::search::spans::{At, Of};
 use crate::tellers::Told;
 use call_log::log_call::{LogCall, PROTECTS};
 use call_log::pages::Range;
-use foundation::NoMemory;
-use kernel_rules::answers::is_clearing;
 use kernel_rules::Phase;
+use kernel_rules::answers::is_clearing;
 use kernel_rules::fault::{find, is_protection};
 use uffd_log::{Call, Message};
 
@@ -43,11 +42,8 @@ fn is_of(ended: Ended, flags: u64) -> bool {
 
 /// Whether an event may be read before a fault.
 fn is_before(told: Told, fault: FaultRead) -> bool {
-    if told.call == fault.call {
-        told.message < fault.message
-    } else {
-        told.begin < fault.end
-    }
+    let is_same = told.call == fault.call;
+    is_same && told.message < fault.message || !is_same && told.begin < fault.end
 }
 
 impl Search {

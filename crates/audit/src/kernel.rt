@@ -6,10 +6,11 @@ use call_log::log::Log;
 use call_log::log_call::{LogCall, has_put};
 use call_log::pages::Range;
 use foundation::NoMemory;
+use foundation::NoMemory;
 use indexmap::IndexSet;
 use kernel_rules::answers::is_clearing;
 use kernel_rules::fault::{find, is_protection};
-use kernel_rules::{Ending, Made, Move, Object, Page, Phase, Presence};
+use kernel_rules::{Ending, Made, Move, Page, Phase, Presence};
 use std::alloc::Global;
 use uffd_log::{Answer, Call, Descriptor, Errno, Message};
 
@@ -108,11 +109,6 @@ impl Kernel {
         })
     }
 
-    /// An object that is open.
-    pub(crate) fn object(&self, object: u64) -> Option<Object> {
-        self.rules.object(object)
-    }
-
     /// The address space that an open object watches.
     pub(crate) fn space_of(&self, object: u64) -> Option<u32> {
         u32::try_from(self.rules.object(object)?.space).ok()
@@ -127,7 +123,7 @@ impl Kernel {
     pub(crate) fn has(&self, space: u32, range: Range, presence: Presence) -> bool {
         for number in range.first..range.end() {
             if let Some(page) = self.page(space, number)
-                && is_as(page, presence)
+                && page.presence == presence
             {
                 return true;
             }
@@ -310,43 +306,28 @@ impl Kernel {
         let (Some(space), true) = (self.space_of(object), call.install_mode().is_some()) else {
             return false;
         };
-        match call.answer {
-            Some(Answer::Value(_)) => self.has(space, range, Presence::Unknown),
-            Some(
-                Answer::Failed {
-                    errno: Errno::Eexist,
-                    ..
-                },
-            ) => self.has(space, one_page(range.first), Presence::Unknown),
-            Some(
-                Answer::Failed {
-                    errno: Errno::Eagain,
-                    bytes: Some(done),
-                },
-            ) => {
-                let end = range
-                    .first
-                    .saturating_add(log.size.number(done))
-                    .saturating_add(1);
-                self.has(
-                    space,
-                    between(range.first, end.min(range.end())),
-                    Presence::Unknown,
-                )
-            }
-            _ => false,
-        }
+        let end = match call.errno() {
+            None => range.end(),
+            Some(Errno::Eexist) => stopped_at(log, call).saturating_add(1),
+            Some(Errno::Eagain) if has_put(call) => stopped_at(log, call).saturating_add(1),
+            Some(_) => return false,
+        };
+        let shown = between(range.first, end.min(range.end()));
+        self.has(space, shown, Presence::Unknown)
     }
 
     /// The faults that were read, of threads that sleep.
     fn sleepers(&self) -> Result<Vec<Slept>, NoMemory> {
         let mut slept = Vec::new(self.alloc);
         for fault in self.rules.faults() {
-            if let (Some(read), Some(space)) = (fault.read_by, self.space_of(fault.object)) {
+            let read = fault.read_by.and_then(|read| u32::try_from(read).ok());
+            if let (Some(read), Some(space)) = (read, self.space_of(fault.object)) {
                 slept.push(Slept {
                     read,
                     space,
-                    fault: *fault,
+                    thread: fault.thread,
+                    page: fault.page,
+                    flags: fault.flags,
                     by: None,
                 })?;
             }
@@ -358,7 +339,7 @@ impl Kernel {
     fn over(&self, slept: &[Slept], by: Option<u32>) -> Result<Vec<Slept>, NoMemory> {
         let mut over = Vec::new(self.alloc);
         for slept in slept {
-            if find(self.rules.faults(), slept.fault.thread).is_none() {
+            if find(self.rules.faults(), slept.thread).is_none() {
                 over.push(Slept { by, ..*slept })?;
             }
         }
@@ -411,7 +392,8 @@ impl Kernel {
 
     /// How many of these are; none of an object that has put no page.
     fn unknown_in(&self, object: u64, range: Range) -> u64 {
-        let (Some(space), Some(watching)) = (self.space_of(object), self.object(object)) else {
+        let (Some(space), Some(watching)) = (self.space_of(object), self.rules.object(object))
+        else {
             return 0;
         };
         if !watching.puts {
@@ -662,15 +644,5 @@ fn forced_answer(call: &LogCall) -> Option<Answer> {
         }
         (Answer::Opened(on), _) => Some(Answer::Opened(on)),
         _ => None,
-    }
-}
-
-/// Whether this is known of the presence of a page.
-fn is_as(page: Page, presence: Presence) -> bool {
-    match presence {
-        Presence::Unknown => matches!(page.presence, Presence::Unknown),
-        Presence::Missing => matches!(page.presence, Presence::Missing),
-        Presence::Present => matches!(page.presence, Presence::Present),
-        Presence::Poisoned => matches!(page.presence, Presence::Poisoned),
     }
 }

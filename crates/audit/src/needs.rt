@@ -164,7 +164,7 @@ fn bares(call: &LogCall) -> bool {
 }
 
 /// Whether a call was refused with EAGAIN and has changed no page.
-pub(crate) fn is_refused_for_now(call: &LogCall) -> bool {
+fn is_refused_for_now(call: &LogCall) -> bool {
     let changes = call.install_mode().is_some() || matches!(call.call, Call::WriteProtect { .. });
     changes && matches!(call.errno(), Some(Errno::Eagain)) && !has_put(call)
 }

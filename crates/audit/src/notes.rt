@@ -25,10 +25,12 @@ pub(crate) struct Again {
 /// A fault that a call has read.
 #[derive(Clone, Copy)]
 pub(crate) struct Slept {
-    pub(crate) read: u64,
+    pub(crate) read: u32,
     /// The address space of its page.
     pub(crate) space: u32,
-    pub(crate) fault: Fault,
+    pub(crate) thread: u64,
+    pub(crate) page: u64,
+    pub(crate) flags: u64,
     /// The call after which its thread no longer slept, if it was one.
     pub(crate) by: Option<u32>,
 }
@@ -113,8 +115,8 @@ impl Notes {
 
     /// A thread has left its fault by a signal, and has the same one again: that is to be resolved.
     pub(crate) fn forget_fault(&mut self, fault: Fault) {
-        self.unanswered.retain(|slept| slept.fault.thread != fault.thread
-            || Some(slept.read) != fault.read_by);
+        self.unanswered.retain(|slept| slept.thread != fault.thread
+            || Some(u64::from(slept.read)) != fault.read_by);
     }
 
     /// Whether an event of a call was not read.

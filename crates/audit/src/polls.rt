@@ -81,7 +81,7 @@ impl Search {
             return Ok(());
         };
         if events == 0 {
-            return self.drain(object, poll);
+            return self.find_empty(object, poll);
         }
         if events != POLLIN || self.kernel.rules.has_unread(object) {
             return Ok(());
@@ -126,7 +126,7 @@ impl Search {
             return Ok(false);
         }
         self.run.put_effect_before(read, poll)?;
-        self.set_kind(poll, Kind::Must);
+        self.log.set_kind(poll, Kind::Must);
         Ok(true)
     }
 
@@ -228,7 +228,7 @@ impl Search {
     /// Unless the poll has its message by now: one of those who wait at the page of the next call that wakes them had queued its fault.
     fn vanish(&mut self, poll: u32, read: Option<u32>, next: u32) -> Result<(), NoMemory> {
         if self.touched {
-            self.set_kind(poll, Kind::Must);
+            self.log.set_kind(poll, Kind::Must);
             return Ok(());
         }
         let Some(call) = self.log.call(poll) else {
@@ -396,7 +396,7 @@ impl Search {
         self.run
             .put_unseen_before(put.step, Move::Queues { thread })?;
         self.run.put_effect_before(put.step, poll)?;
-        self.set_kind(poll, Kind::Must);
+        self.log.set_kind(poll, Kind::Must);
         Ok(true)
     }
 

@@ -202,12 +202,8 @@ impl Search {
             call: place,
             reason,
         })?;
-        self.set_kind(place, Kind::Unexplained);
+        self.log.set_kind(place, Kind::Unexplained);
         Ok(())
-    }
-
-    pub(crate) fn set_kind(&mut self, place: u32, kind: Kind) {
-        self.log.set_kind(place, kind);
     }
 
     /// A call takes effect, and its answer is judged.
@@ -303,17 +299,17 @@ impl Search {
     /// Whether another call had put the page at which one has stopped, and nothing took it away.
     fn had_put(&self, place: u32, call: &LogCall) -> bool {
         let page = stopped_at(&self.log, call);
+        let addr = self.log.size.address(page);
         let Some(object) = call.object() else {
             return false;
         };
-        let (Some(put), Some(space)) = (
-            self.index.next_put(place, object, page, 0),
-            self.kernel.space_of(object),
-        ) else {
-            return false;
-        };
-        let addr = self.log.size.address(page);
-        put.end < call.begin && !self.index.is_taken(space, addr, put.end, call.end)
+        let put = self.index.next_put(place, object, page, 0);
+        match (put, self.kernel.space_of(object)) {
+            (Some(put), Some(space)) if put.end < call.begin => {
+                !self.index.is_taken(space, addr, put.end, call.end)
+            }
+            _ => false,
+        }
     }
 
     /// Whether a page of a call may have lost its registration while the call lasted: its monitor could not know that.
@@ -349,15 +345,13 @@ impl Search {
         }
         let has_messages = !self.log.messages_of(call).is_empty();
         let may = has_messages || self.kernel.resolved || self.run.has_access_from(frame.first);
-        self.set_kind(frame.call, if may { Kind::May } else { Kind::Must });
+        self.log
+            .set_kind(frame.call, if may { Kind::May } else { Kind::Must });
     }
 
     /// How many messages of a read were taken before its others.
     pub(crate) fn taken(&self, place: u32) -> u32 {
-        match self.find_open(place) {
-            Some(open) => open.taken,
-            None => 0,
-        }
+        self.find_open(place).map_or(0, |open| open.taken)
     }
 
     /// A call that has not taken effect.

@@ -2,11 +2,10 @@
 
 use crate::accesses::ThreadTask;
 use crate::cases::one_page;
-use crate::needs::{Wanted, is_refused_for_now};
+use crate::needs::Wanted;
 use crate::polls::PollTask;
 use crate::search::Search;
-use crate::tellers::moved_to;
-use call_log::log_call::{LogCall, PROTECTS};
+use call_log::log_call::{LogCall, PROTECTS, has_put};
 use call_log::pages::Range;
 use foundation::NoMemory;
 use kernel_rules::{Move, Presence};
@@ -166,7 +165,7 @@ impl Search {
 
     /// The same of an install: a fault which says that a page that it puts is write-protected comes after it. One that changes no page needs none.
     fn plan_reads_before(&mut self, call: &LogCall) -> Result<(), NoMemory> {
-        if is_refused_for_now(call) {
+        if !has_put(call) {
             return Ok(());
         }
         let (Some(object), Some(range), true) = (

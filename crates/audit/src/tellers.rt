@@ -119,11 +119,11 @@ impl Search {
         let first = self.index.first_read(object, self.line);
         for place in first..first.saturating_add(NEAR as usize) {
             let read = self.read_at(object, place)?;
-            if read.done {
-                continue;
-            }
             let messages = self.log.messages_of(&read);
-            if let Some(at) = messages.iter().position(|one| self.may_tell(call, object, *one)) {
+            let at = messages
+                .iter()
+                .position(|one| self.may_tell(call, object, *one));
+            if let (false, Some(at)) = (read.done, at) {
                 return Some(Told {
                     call: self.index.reads.get(place)?.call,
                     begin: read.begin,

@@ -3,7 +3,7 @@
 ghost use Rattle.std.specs.Prelude.{◌≡◌, ◌++◌, codes, length, OnOk, IfOk, string_bytes};
 ghost use Rattle.audit.specs.TraceEvents.{AddsEvents, IsAnyTrace, IsTrace, event_line, microseconds};
 
-use crate::cases::{Case, Moment, call_at, list_cases};
+use crate::cases::{Case, Moment, list_cases};
 use crate::judging::{Judged, PAGE};
 use crate::notes::Slept;
 use crate::texts::{add_place_fields, kind_of};
@@ -26,12 +26,12 @@ struct Span {
 
 /// A wait that a call has ended.
 fn span_of(judged: &Judged, slept: &Slept) -> Option<Span> {
-    let read = call_at(&judged.log, slept.read)?;
+    let read = judged.log.call(slept.read)?;
     let by = judged.log.call(slept.by?)?;
     Some(Span {
         slept: *slept,
         object: read.object(),
-        thread: match named_thread(slept.fault.thread) {
+        thread: match named_thread(slept.thread) {
             Some(thread) => u64::from(thread),
             None => UNNAMED,
         },
@@ -88,7 +88,7 @@ fn add_microseconds(text: &mut String, time: u64) -> Result<(), NoMemory>
 
 /// Adds the fields of a wait.
 fn add_span(text: &mut String, span: &Span) -> Result<(), NoMemory> {
-    let kind = kind_of(span.slept.fault.flags);
+    let kind = kind_of(span.slept.flags);
     let (process, thread) = (span.slept.space, span.thread);
     write!(
         text,
@@ -98,7 +98,7 @@ fn add_span(text: &mut String, span: &Span) -> Result<(), NoMemory> {
     add_microseconds(text, span.since.time)?;
     text.push_str(", \"dur\": ")?;
     add_microseconds(text, span.until.time.saturating_sub(span.since.time))?;
-    let addr = PAGE.address(span.slept.fault.page);
+    let addr = PAGE.address(span.slept.page);
     let (line, woken) = (span.since.line, span.until.line);
     write!(
         text,

@@ -64,7 +64,7 @@ pub(crate) fn waits_of(
 ) -> Result<Vec<Wait>, NoMemory> {
     let mut waits = Vec::new(alloc);
     for slept in &judged.notes.waits {
-        if flags.is_none() || flags == Some(slept.fault.flags) {
+        if flags.is_none() || flags == Some(slept.flags) {
             if let Some(wait) = wait_of(judged, slept) {
                 waits.push(wait)?;
             }
@@ -76,7 +76,7 @@ pub(crate) fn waits_of(
 
 /// How long a thread slept that a call has woken.
 pub(crate) fn wait_of(judged: &Judged, slept: &Slept) -> Option<Wait> {
-    let read = judged.log.call(u32::try_from(slept.read).ok()?)?;
+    let read = judged.log.call(slept.read)?;
     let by = judged.log.call(slept.by?)?;
     Some(Wait {
         time: by.until.saturating_sub(read.until),

@@ -22,9 +22,11 @@ impl Kernel {
         let Some(name) = call.object() else {
             return NO_ANSWER;
         };
-        match self.object(name) {
+        match self.rules.object(name) {
             None => return "the object is closed",
-            Some(object) if object.features.is_none() && !is_api(call) => return "no handshake",
+            Some(object) if object.features.is_none() && !matches!(call.call, Call::Api { .. }) => {
+                return "no handshake";
+            }
             Some(_) => {}
         }
         match call.call {
@@ -70,11 +72,6 @@ impl Kernel {
     fn has_no_teller(&self, name: u64, messages: &[Message]) -> bool {
         messages.iter().any(|message| is_event(message) && self.teller(name, *message).is_none())
     }
-}
-
-/// Whether a call is the handshake.
-fn is_api(call: &LogCall) -> bool {
-    matches!(call.call, Call::Api { .. })
 }
 
 /// The same of poll, by the events that it has found.

@@ -60,7 +60,7 @@ mode_of bits = record { missing = is_one bits 0; protect = is_one bits 1 }
 abbrev pub known_as : Bool → Presence → Presence
 known_as missing presence = if is_missing presence && not missing then Unknown else presence
 
--- a page once it is registered: one that has all modes asked for keeps its own. Its protection stays, also where nobody is told of it
+-- a page once it is registered: one that has all modes asked for keeps its own. Its protection stays, also where no fault says so
 abbrev pub with_mode : Mode → Bool → Page → Page
 with_mode mode minor page =
     if (not minor || page.minor) && ((not mode.missing || page.missing) && (not mode.protect || page.protect)) then page
@@ -131,10 +131,11 @@ is_of_protection flags = is_one flags 1
 abbrev pub is_of_minor : ℕ → Bool
 is_of_minor flags = is_one flags 2
 
--- what a fault shows of its page: a write-protected one is present, and another one missing or not mapped, so that it is not protected
+-- what a fault shows of its page: a write-protected one is present, and another one missing or not mapped, so that it is not protected, but by the
+-- marker of a missing page, which stays
 abbrev pub shown : Bool → Page → Page
 shown true page = record page { presence = Present }
-shown false page = record page { presence = known_as page.missing Missing; guarded = false }
+shown false page = record page { presence = known_as page.missing Missing; guarded = page.guarded && is_missing page.presence }
 
 -- a page once it is cleared
 abbrev pub cleared_page : Page → Page

@@ -220,7 +220,7 @@ fn faulted(page: Page, protected: bool) -> Page
     } else {
         Page {
             presence: known_as(page, Presence::Missing),
-            guarded: false,
+            guarded: page.guarded && matches!(page.presence, Presence::Missing),
             ..page
         }
     }

@@ -27,7 +27,7 @@ pub struct Page {
     pub minor: bool,
     /// Whether it is present, as far as the log has shown it: mapped, where it is registered for minor faults.
     pub presence: Presence,
-    /// Whether it is write-protected, if it is present. Nobody is told of that where it is not registered for write-protect faults.
+    /// Whether it is write-protected, if it is present. No fault says so where it is not registered for these.
     pub guarded: bool,
     /// Whether a call of the log has put it.
     pub put: bool,

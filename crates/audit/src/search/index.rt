@@ -84,6 +84,9 @@ impl Index {
                 index.add(log, *place, &call)?;
             }
         }
+        if index.gone.is_empty() && index.cleared.is_empty() {
+            index.puts = Vec::new(alloc);
+        }
         index.faults.sort()?;
         index.puts.sort()?;
         index.reads.sort()?;

@@ -62,6 +62,10 @@ impl Spans {
         Ok(())
     }
 
+    pub(crate) fn is_empty(&self) -> bool {
+        self.0.is_empty()
+    }
+
     /// Notes with each call the first line at which it or one after it begins.
     pub(crate) fn note_begins(&mut self) {
         let mut first = u32::MAX;

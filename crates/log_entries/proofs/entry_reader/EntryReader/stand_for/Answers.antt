@@ -10,5 +10,5 @@ returns c =
     let new : EntryReader = record c.args.self.now { entries = c.push_end.new.self } in
     on_ok_weaker c.push_end.result
     (λ e lines has.
-        stood lines c.args.self.now mid new c.args.one c.args.stamp c.args.call c.args.answer c.made_by.result c.requires c.made_by.ensures refl refl c.in_ok-push_begin.ensures.ok e has)
+    stood lines c.args.self.now mid new c.args.one c.args.stamp c.args.call c.args.answer c.made_by.result c.requires c.made_by.ensures refl refl c.in_ok-push_begin.ensures.ok e has)
     c.push_end.ensures.ok
