@@ -6,9 +6,9 @@ use crate::search::Search;
 use crate::tasks::{Task, others};
 use crate::threads::{is_unnamed, unnamed};
 use call_log::log_call::{LogCall, is_event};
+use foundation::NoMemory;
 use kernel_rules::fault::{find, is_protection};
 use kernel_rules::{Fault, Move, Phase};
-use mig_base::NoMemory;
 use uffd_log::{Errno, Message};
 
 const THREAD_ID: u64 = 0x100;

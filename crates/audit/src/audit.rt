@@ -25,7 +25,7 @@ use call_log::fault::LogFault;
 use call_log::input::{read_log, write_out};
 use call_log::split::first_line;
 use call_log::{CompleteLog, ReadLog};
-use mig_base::NoMemory;
+use foundation::NoMemory;
 use std::alloc::Global;
 use std::io::{Read, Write};
 

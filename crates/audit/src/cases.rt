@@ -11,7 +11,7 @@ use crate::wakes::{Twice, find_wakes};
 use call_log::log::Log;
 use call_log::log_call::LogCall;
 use call_log::pages::Range;
-use mig_base::NoMemory;
+use foundation::NoMemory;
 use std::alloc::Global;
 use uffd_log::{Answer, Errno};
 

@@ -5,7 +5,7 @@ use crate::cases::{Case, list_cases};
 use crate::judging::Judged;
 use crate::rule_names::Rule;
 use crate::texts::{json_text, page_text, text_of};
-use mig_base::NoMemory;
+use foundation::NoMemory;
 use std::alloc::Global;
 
 /// A finding: the line of its first case, and what it says after its severity.

@@ -5,9 +5,9 @@ use crate::search::index::{FaultRead, message_of};
 use crate::search::spans::{At, Of};
 use call_log::log_call::{LogCall, PROTECTS};
 use call_log::pages::Range;
+use foundation::NoMemory;
 use kernel_rules::answers::is_clearing;
 use kernel_rules::fault::{find, is_protection};
-use mig_base::NoMemory;
 use uffd_log::{Call, Message};
 
 /// What pages no longer are after a call.

@@ -3,14 +3,14 @@
 use crate::cases::{Case, call_case, one_page};
 use crate::rule_names::Rule;
 use crate::search::Search;
-use crate::tellers::moves_to;
+use crate::tellers::moved_to;
 use crate::threads::named_thread;
 use call_log::log::Log;
 use call_log::log_call::LogCall;
 use call_log::pages::Range;
+use foundation::NoMemory;
 use kernel_rules::fault::find;
 use kernel_rules::{Fault, Move, Page, Presence};
-use mig_base::NoMemory;
 use std::alloc::Global;
 use std::fmt;
 use uffd_log::{Answer, Call, Errno, Message};
@@ -219,12 +219,11 @@ impl Search {
 
     /// The address space of a call that is of a page.
     fn space_of_call(&self, call: &LogCall, page: u64) -> Option<u32> {
-        let is_there = match self.log.pages_of(call) {
-            Some(range) => range.contains(page),
-            None => false,
-        };
+        let pages = self.log.pages_of(call);
+        let is_there = pages.is_some_and(|range| range.contains(page));
         if call.is_map_call() {
-            let is_of = is_there || moves_to(&self.log, call, page);
+            let is_of = is_there
+                || moved_to(self.log.size, call).is_some_and(|to| to.contains(page));
             return if is_of { Some(call.space) } else { None };
         }
         let object = call.object()?;

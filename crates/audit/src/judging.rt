@@ -7,7 +7,7 @@ use crate::search::{Search, Unexplained};
 use crate::work::{Nothing, nothing_in};
 use call_log::log::Log;
 use call_log::pages::PageSize;
-use mig_base::NoMemory;
+use foundation::NoMemory;
 use std::alloc::Global;
 
 /// The size of a page of the rules.

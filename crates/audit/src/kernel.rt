@@ -5,11 +5,11 @@ use crate::notes::{Again, Area, Notes, Slept, Stopped, Untold};
 use call_log::log::Log;
 use call_log::log_call::{LogCall, has_put};
 use call_log::pages::Range;
+use foundation::NoMemory;
 use indexmap::IndexSet;
 use kernel_rules::answers::is_clearing;
 use kernel_rules::fault::{find, is_protection};
 use kernel_rules::{Ending, Made, Move, Object, Page, Phase, Presence};
-use mig_base::NoMemory;
 use std::alloc::Global;
 use uffd_log::{Answer, Call, Descriptor, Errno, Message};
 

@@ -4,9 +4,9 @@ use crate::judging::Judged;
 use crate::run::{Late, Run, What};
 use call_log::call_table::narrow;
 use call_log::log::Log;
+use foundation::NoMemory;
 use kernel_rules::Move;
 use log_entries::EntryStore;
-use mig_base::NoMemory;
 use std::alloc::Global;
 use uffd_log::Answer;
 

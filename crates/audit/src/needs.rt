@@ -5,7 +5,7 @@ use crate::polls::PROTECTED_STORE;
 use crate::search::index::{FaultRead, message_of};
 use crate::search::spans::At;
 use crate::search::{Open, Search};
-use crate::tellers::{changes, moves_to};
+use crate::tellers::{changes, moved_to};
 use call_log::log_call::{COPY_PROTECTS, LogCall, PROTECTS, has_put, is_event};
 use call_log::pages::{PageSize, Range};
 use kernel_rules::fault::{find, is_protection, stops};
@@ -39,7 +39,7 @@ pub(crate) enum Wanted {
     Waiting(u64),
     /// Reads that find nothing.
     Empty(u64),
-    /// Reads that return a fault of some pages of an address space, but for those that return an event of this map call, which has to tell of it first.
+    /// Reads that return a fault of some pages of an address space, but for those that return an event of this map call, which must tell of it first.
     FaultsOfSpace {
         space: u32,
         range: Range,
@@ -260,7 +260,7 @@ impl Search {
             Wanted::RefusedDuring(key) => self.is_refused_during(key, call),
             Wanted::Clears { space, page } => self.may_clear(call, space, page),
             Wanted::MovesTo { space, page } => call.space == space
-                && moves_to(&self.log, call, page),
+                && moved_to(self.log.size, call).is_some_and(|to| to.contains(page)),
             Wanted::OfObject(object) => call.object() == Some(object),
             Wanted::Registers { object, range } => {
                 call.object() == Some(object) && self.registers(call, range)
@@ -343,12 +343,9 @@ impl Search {
 
     /// Whether a call registers a page of a range.
     fn registers(&self, call: &LogCall, range: Range) -> bool {
-        match self.log.pages_of(call) {
-            Some(pages) if matches!(call.call, Call::Register { .. }) => {
-                call.is_ok() && pages.common(range).count > 0
-            }
-            _ => false,
-        }
+        let is_of = matches!(call.call, Call::Register { .. }) && call.is_ok();
+        let pages = self.log.pages_of(call);
+        is_of && pages.is_some_and(|pages| pages.common(range).count > 0)
     }
 
     /// Whether a call takes the registration of a page of a range away.
@@ -358,10 +355,7 @@ impl Search {
             Call::Mmap { .. } | Call::Munmap { .. } | Call::Mremap { .. } => call.space == space,
             _ => false,
         };
-        match self.log.pages_of(call) {
-            Some(pages) => is_of && call.is_ok() && pages.common(range).count > 0,
-            None => false,
-        }
+        is_of && call.is_ok() && changes(self.log.size, call, range)
     }
 
     /// Whether each page of a range is registered.
@@ -376,10 +370,8 @@ impl Search {
 
     /// Whether a page of a call is in a range of an address space.
     fn has_page_in(&self, call: &LogCall, space: u32, range: Range) -> bool {
-        match self.log.pages_of(call) {
-            Some(pages) => self.watches_space(call, space) && pages.common(range).count > 0,
-            None => false,
-        }
+        let pages = self.log.pages_of(call);
+        self.watches_space(call, space) && pages.is_some_and(|pages| pages.common(range).count > 0)
     }
 
     fn watches_space(&self, call: &LogCall, space: u32) -> bool {

@@ -1,9 +1,9 @@
 //! What is noted of a run for findings.
 
 use call_log::pages::Range;
+use foundation::NoMemory;
 use indexmap::IndexSet;
 use kernel_rules::{Difference, Fault};
-use mig_base::NoMemory;
 use std::alloc::Global;
 
 /// Pages that were registered, and still missing when that ended: by a call, or by the end of the log.

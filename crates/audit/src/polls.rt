@@ -8,9 +8,9 @@ use crate::tasks::{Task, others};
 use crate::threads::stranger;
 use call_log::log_call::{DONTWAKE, Kind, LogCall, POLLIN, is_event};
 use call_log::pages::Range;
+use foundation::NoMemory;
 use kernel_rules::fault::{find, stops};
 use kernel_rules::{Fault, Move, Phase};
-use mig_base::NoMemory;
 use uffd_log::{Answer, Errno, Message};
 
 /// How many calls after a poll are looked at, and reads after a call.

@@ -1,8 +1,8 @@
 //! A run of a log: its lines in their order, with the effects of calls put in between, and what no line shows.
 
 use call_log::call_table::narrow;
+use foundation::NoMemory;
 use kernel_rules::Move;
-use mig_base::NoMemory;
 use std::alloc::Global;
 
 /// A thread that finds that it has to wait at a page.

@@ -16,9 +16,9 @@ use crate::search::spans::At;
 use crate::tasks::{Frame, Task, others};
 use call_log::log::Log;
 use call_log::log_call::{Kind, LogCall, has_put};
+use foundation::NoMemory;
 use indexmap::IndexMap;
 use kernel_rules::{Move, Presence};
-use mig_base::NoMemory;
 use std::alloc::Global;
 use uffd_log::{Answer, Errno};
 

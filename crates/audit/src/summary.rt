@@ -23,8 +23,8 @@ use crate::rule_names::Rule;
 use crate::waits::{KINDS, Microseconds, waits_of};
 use call_log::log_call::Kind;
 use call_log::split::first_line;
+use foundation::NoMemory;
 use kernel_rules::Difference;
-use mig_base::NoMemory;
 use std::alloc::Global;
 
 /// The differences from the model, in the order of their names.

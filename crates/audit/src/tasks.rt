@@ -5,10 +5,11 @@ use crate::cases::one_page;
 use crate::needs::{Wanted, is_refused_for_now};
 use crate::polls::PollTask;
 use crate::search::Search;
+use crate::tellers::moved_to;
 use call_log::log_call::{LogCall, PROTECTS};
 use call_log::pages::Range;
+use foundation::NoMemory;
 use kernel_rules::{Move, Presence};
-use mig_base::NoMemory;
 use uffd_log::{Call, Errno};
 
 /// The most tasks for a call that ends: each open call takes effect once, and needs few for each of its pages and messages.
@@ -202,9 +203,12 @@ impl Search {
             range,
             by: place,
         }))?;
-        // Where it ends before its own event could be read it maps what another call has unmapped.
-        if matches!(call.call, Call::Mmap { .. }) && line == self.line {
+        // Where it ends before its own event could be read, another call has unmapped or moved what it maps, unmaps or moves.
+        if !matches!(call.call, Call::Madvise { .. }) && line == self.line {
             self.plan(others(Wanted::Unregisters { space, range }))?;
+            if let Some(range) = moved_to(self.log.size, call) {
+                self.plan(others(Wanted::Unregisters { space, range }))?;
+            }
         }
         Ok(())
     }

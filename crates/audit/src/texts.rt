@@ -4,7 +4,7 @@ use crate::cases::{Case, Moment};
 use crate::judging::{Judged, PAGE};
 use crate::waits::KINDS;
 use call_log::pages::{PageSize, Range};
-use mig_base::NoMemory;
+use foundation::NoMemory;
 use std::alloc::Global;
 
 /// How many cases of a finding are said.

@@ -8,7 +8,7 @@ use crate::judging::{Judged, PAGE};
 use crate::notes::Slept;
 use crate::texts::{add_place_fields, kind_of};
 use crate::threads::named_thread;
-use mig_base::NoMemory;
+use foundation::NoMemory;
 use std::alloc::Global;
 
 /// The first thread of the format of those that the log does not name: its own end below it.

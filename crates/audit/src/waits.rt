@@ -2,7 +2,7 @@
 
 use crate::judging::Judged;
 use crate::notes::Slept;
-use mig_base::NoMemory;
+use foundation::NoMemory;
 use std::alloc::Global;
 use std::fmt;
 

@@ -5,7 +5,7 @@ use crate::notes::Stopped;
 use call_log::log::Log;
 use call_log::log_call::{LogCall, has_put};
 use call_log::pages::Range;
-use mig_base::NoMemory;
+use foundation::NoMemory;
 use std::alloc::Global;
 use uffd_log::{Answer, Call};
 

@@ -159,7 +159,7 @@ impl Reason<'_> {
         self.cite_all(text, &mappers)
     }
 
-    /// Of an mmap the places that either reply names, and the one that has to be free.
+    /// Of an mmap the places that either reply names, and the one that must be free.
     fn write_mmap(&self, text: &mut String, len: u64, place: Place) -> Result<(), NoMemory> {
         let is_placed = match place {
             Place::Anywhere => self.write_places(text, None, len)?,

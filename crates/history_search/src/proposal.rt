@@ -189,7 +189,7 @@ fn find(
 }
 
 /// Proposes an order of the operations of a history, or contradictions in it: each names operations that are there. No tick is looked for that a
-/// counter gave twice. `NoMemory` comes if room is refused: about 50 bytes an operation are needed.
+/// counter gave twice. `NoMemory` is returned if room is refused: about 50 bytes an operation are needed.
 pub fn propose(alloc: Global, clock: Clock, operations: &[Operation]) -> Result<Proposal, NoMemory>
     ensures { IfOk result (λ proposal. NamesThose operations.now proposal) }
 {

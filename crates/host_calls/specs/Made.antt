@@ -1,7 +1,7 @@
 -- What the calls of a step do to the guest of a node, by the rows of `mig_model`: ioctl_userfaultfd(2), and userfaultfd(2) for messages
 -- that are read.
 use Rattle.std.specs.Prelude.{◌≡◌, ℕ, ◌/◌, ◌==◌, ◌⊎◌, false, true, if◌then◌else◌, None, Ok, List, [], ◌∷◌, set}
-use Rattle.mig_base.specs.declared.TheConstants.{PAGE_SIZE}
+use Rattle.foundation.specs.declared.TheConstants.{PAGE_SIZE}
 use Rattle.mig_base.specs.declared.wake.Wake.TheVariants.{Nobody, Range}
 use Rattle.mig_model.specs.Cpus.{message_less, processor_at}
 use Rattle.mig_model.specs.Guest.{Guest, is_present}

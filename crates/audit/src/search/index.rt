@@ -4,7 +4,7 @@ use crate::needs::protects;
 use crate::search::spans::{At, Of, Spans};
 use call_log::log::Log;
 use call_log::log_call::LogCall;
-use mig_base::NoMemory;
+use foundation::NoMemory;
 use std::alloc::Global;
 use uffd_log::{Call, Message};
 
@@ -44,6 +44,28 @@ pub(crate) struct Index {
     registered: Spans,
     /// Those that write-protect pages of an object.
     pub(crate) protected: Spans,
+}
+
+/// The bytes that an mremap maps or unmaps beside its old place: its target, or what it adds or cuts off where it moves nothing.
+fn changed_by_mremap(call: &LogCall) -> Option<(u64, u64)> {
+    let Call::Mremap {
+        addr,
+        old_len,
+        new_len,
+        ..
+    } = call.call
+    else {
+        return None;
+    };
+    let target = call.value()?;
+    if target != addr {
+        return Some((target, new_len));
+    }
+    let end = old_len.min(new_len);
+    Some((
+        addr.saturating_add(end),
+        old_len.max(new_len).saturating_sub(end),
+    ))
 }
 
 impl Index {
@@ -123,9 +145,12 @@ impl Index {
             return Ok(());
         };
         let space = Of::Space(call.space);
-        if let (Call::Mremap { new_len, .. }, Some(target)) = (call.call, call.value()) {
-            self.registered.add(place, call, space, (target, new_len))?;
-            self.gone.add(place, call, space, (target, new_len))?;
+        if let Some(changed) = changed_by_mremap(call) {
+            self.registered.add(place, call, space, changed)?;
+            self.gone.add(place, call, space, changed)?;
+            if call.value() == Some(bytes.0) {
+                return Ok(());
+            }
         }
         let Some(object) = call.object() else {
             return match call.call {

@@ -1,7 +1,7 @@
 //! Calls by the bytes that they change, in the order of their ends.
 
 use call_log::log_call::LogCall;
-use mig_base::NoMemory;
+use foundation::NoMemory;
 use std::alloc::Global;
 
 /// Whose bytes.

@@ -27,18 +27,23 @@ enum Taken {
     NotWellFormed,
     Took,
     SendsDone,
-    SendsOther,
     Refused(TakeFault),
+}
+
+/// Takes a frame, and says whether Done answers it.
+fn is_done_for(destination: &mut Destination, epoch: u32, frame: Frame) -> Result<bool, TakeFault> {
+    let answers = destination.answers(&frame)?;
+    destination.take(epoch, frame)?;
+    Ok(matches!(answers.as_slice(), [Frame::Done]))
 }
 
 fn taken_of(destination: &mut Destination, epoch: u32, frame: Frame) -> Taken {
     if !frame.is_well_formed() {
         return Taken::NotWellFormed;
     }
-    match destination.take(epoch, frame) {
-        Ok(None) => Taken::Took,
-        Ok(Some(Frame::Done)) => Taken::SendsDone,
-        Ok(Some(_)) => Taken::SendsOther,
+    match is_done_for(destination, epoch, frame) {
+        Ok(true) => Taken::SendsDone,
+        Ok(false) => Taken::Took,
         Err(fault) => Taken::Refused(fault),
     }
 }
@@ -59,7 +64,6 @@ fn print_taken(rt: &HostRuntime, destination: &Destination, answer: Taken) -> io
         Taken::NotWellFormed => return println!(rt; "not well formed"),
         Taken::Took => print!(rt; "took")?,
         Taken::SendsDone => print!(rt; "took, and sends Done")?,
-        Taken::SendsOther => print!(rt; "took, and sends another frame")?,
         Taken::Refused(fault) => print!(rt; "refused {fault:?}")?,
     }
     print_state(rt, destination)
