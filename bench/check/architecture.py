@@ -48,11 +48,8 @@ ROWS = (
             12,
         ),
     ),
-    (
-        52,
-        ("the machine and the flat memory: definitions and laws", "mig_model mig_laws mig_base", 7),
-        ("what all share; words and lines", "foundation words lines", 5),
-    ),
+    (52, ("the machine and the flat memory: definitions and laws", "mig_model mig_laws mig_base", 12)),
+    (52, ("what all share; words and lines", "foundation words lines", 12)),
 )
 WIDTH, COLUMN, COLUMNS, GAP, RISE, LETTER = 748, 60, 12, 12, 26, 7.0
 STYLE = (

@@ -2,7 +2,7 @@
 //! or nobody reads it.
 
 use crate::accesses::{Access, ThreadTask};
-use crate::needs::{Wanted, wakers_of};
+use crate::needs::{CallFilter, wakers_of};
 use crate::search::{Put, Search};
 use crate::tasks::{Task, others};
 use crate::threads::stranger;
@@ -91,7 +91,7 @@ impl Search {
             return Ok(());
         }
         self.plan_poll(PollTask::Find(poll))?;
-        self.plan(others(Wanted::Empty(object)))
+        self.plan(others(CallFilter::Empty(object)))
     }
 
     /// A message comes before the answer of a poll, and after the reads under way that find nothing.

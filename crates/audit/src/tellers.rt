@@ -1,6 +1,6 @@
 //! Which map call under way an event is of, and which one an object has refused calls for.
 
-use crate::needs::Wanted;
+use crate::needs::CallFilter;
 use crate::polls::NEAR;
 use crate::search::Search;
 use crate::tasks::{Task, others};
@@ -71,7 +71,7 @@ impl Search {
         if self.kernel.rules.may_be_changing(object) {
             Ok(())
         } else {
-            self.plan(others(Wanted::Tellers))
+            self.plan(others(CallFilter::Tellers))
         }
     }
 

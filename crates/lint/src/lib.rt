@@ -23,4 +23,4 @@ mod walk;
 mod wanted;
 
 pub use crate::reason::{Reason, reason_of};
-pub use crate::run::lint_lines;
+pub use crate::run::{Listed, lint_lines};

@@ -1,7 +1,7 @@
 //! What a search looks up in a log: reads by their objects and pages, and what takes registered pages away.
 
 use crate::needs::protects;
-use crate::search::spans::{At, Of, Spans};
+use crate::search::spans::{ObjectPage, Owner, Spans};
 use call_log::log::Log;
 use call_log::log_call::LogCall;
 use foundation::NoMemory;
@@ -144,7 +144,7 @@ impl Index {
         let (Some(bytes), true) = (call.bytes(), call.is_ok()) else {
             return Ok(());
         };
-        let space = Of::Space(call.space);
+        let space = Owner::Space(call.space);
         if let Some(changed) = changed_by_mremap(call) {
             self.registered.add(place, call, space, changed)?;
             self.gone.add(place, call, space, changed)?;
@@ -159,9 +159,13 @@ impl Index {
             };
         };
         match call.call {
-            Call::Unregister { .. } => self.gone.add(place, call, Of::Object(object), bytes),
-            Call::Register { .. } => self.registered.add(place, call, Of::Object(object), bytes),
-            _ if protects(call) => self.protected.add(place, call, Of::Object(object), bytes),
+            Call::Unregister { .. } => self.gone.add(place, call, Owner::Object(object), bytes),
+            Call::Register { .. } => self
+                .registered
+                .add(place, call, Owner::Object(object), bytes),
+            _ if protects(call) => self
+                .protected
+                .add(place, call, Owner::Object(object), bytes),
             _ => Ok(()),
         }
     }
@@ -201,23 +205,24 @@ impl Index {
     }
 
     /// Whether a page may be registered by a call that ends at a line or after it, and begins before another line.
-    pub(crate) fn is_registered(&self, at: At, from: u32, until: u32) -> bool {
+    pub(crate) fn is_registered(&self, at: ObjectPage, from: u32, until: u32) -> bool {
         self.registered.has_any(at, from, until)
     }
 
     /// The same of calls that take its registration away.
-    pub(crate) fn is_gone(&self, at: At, from: u32, until: u32) -> bool {
+    pub(crate) fn is_gone(&self, at: ObjectPage, from: u32, until: u32) -> bool {
         self.gone.has_any(at, from, until)
     }
 
     /// The same of calls that take its registration away, and of others that register it.
-    pub(crate) fn is_registered_anew(&self, at: At, from: u32, until: u32) -> bool {
+    pub(crate) fn is_registered_anew(&self, at: ObjectPage, from: u32, until: u32) -> bool {
         self.is_gone(at, from, until) && self.is_registered(at, from, until)
     }
 
     /// The same of calls that make it missing: it is cleared, or registered anew.
-    pub(crate) fn is_cleared(&self, at: At, from: u32, until: u32) -> bool {
-        self.cleared.has(Of::Space(at.space), at.addr, from, until)
+    pub(crate) fn is_cleared(&self, at: ObjectPage, from: u32, until: u32) -> bool {
+        self.cleared
+            .has(Owner::Space(at.space), at.addr, from, until)
             || self.is_registered_anew(at, from, until)
     }
 }

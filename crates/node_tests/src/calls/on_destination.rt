@@ -30,20 +30,17 @@ enum Taken {
     Refused(TakeFault),
 }
 
-/// Takes a frame, and says whether Done answers it.
-fn is_done_for(destination: &mut Destination, epoch: u32, frame: Frame) -> Result<bool, TakeFault> {
-    let answers = destination.answers(&frame)?;
-    destination.take(epoch, frame)?;
-    Ok(matches!(answers.as_slice(), [Frame::Done]))
-}
-
 fn taken_of(destination: &mut Destination, epoch: u32, frame: Frame) -> Taken {
     if !frame.is_well_formed() {
         return Taken::NotWellFormed;
     }
-    match is_done_for(destination, epoch, frame) {
-        Ok(true) => Taken::SendsDone,
-        Ok(false) => Taken::Took,
+    let answers = match destination.answers(&frame) {
+        Ok(answers) => answers,
+        Err(fault) => return Taken::Refused(TakeFault::from(fault)),
+    };
+    match destination.take(epoch, frame) {
+        Ok(()) if matches!(answers.as_slice(), [Frame::Done]) => Taken::SendsDone,
+        Ok(()) => Taken::Took,
         Err(fault) => Taken::Refused(fault),
     }
 }

@@ -1,7 +1,7 @@
 use Rattle.std.proofs.Common.{◌≡◌, ◌≤◌, ◌+◌, arith, subst}
 use Rattle.explore.specs.Explorations.{Going}
 use Rattle.explore.proofs.Going.{going_added, going_gone, going_cut, going_stops, are_few, on_err, ended_ok, ended_fault}
-use Rattle.explore.proofs.run.write_lines.Goals as goal
+use Rattle.explore.proofs.run.write_script.Goals as goal
 
 pub returns-in_err-add_order-clause-fault : goal.returns-in_err-add_order-clause-fault
 returns-in_err-add_order-clause-fault g c =

@@ -3,13 +3,13 @@ use Rattle.grammar.specs.Lines.{HasNoFeed}
 use Rattle.engine.specs.Engine.{Place}
 use Rattle.engine.proofs.Whole.{at_end}
 use Rattle.wiretap.proofs.Whole.{ran_none, ran_then, ran_finished}
-use Rattle.wiretap.proofs.run.read_lines.Goals as goal
+use Rattle.wiretap.proofs.taps.Taps.read_lines.Goals as goal
 
 pub loop-init : goal.loop-init
 loop-init g c =
     let new = c.requires.start in
     record {
-      ran = ran_none g.T.Write.contents c.args.script.now.work c.args.script.now _ _ c.args.taps.now new;
+      ran = ran_none g.T.Write.contents c.args.script.now.work c.args.script.now _ _ c.args.self.now new;
       clean = ap (λ (place : Place). place.output) new;
       one = subst HasNoFeed (sym (ap (λ (place : Place). place.line) new)) tt;
       runs = c.requires.runs;
