@@ -37,7 +37,7 @@ ROWS = (
         ("steps to completion; all schedules", "finish schedules reachable", 3),
         ("scripts, transcripts and replies as text; pictures", "engine grammar report hosts diagram", 9),
     ),
-    (52, ("a migration: both nodes, three wires, and its recovery", "world recovery", 12)),
+    (52, ("a migration: both nodes and three wires", "world", 12)),
     (52, ("the source", "precopy dirty_log", 6), ("the destination", "fault_handler owed_pages", 6)),
     (52, ("frames, and the wires that carry them", "wires frame_decoder page_stream", 12)),
     (
@@ -48,11 +48,8 @@ ROWS = (
             12,
         ),
     ),
-    (
-        52,
-        ("the machine and the flat memory: definitions and laws", "mig_model mig_laws mig_base frame_texts", 7),
-        ("where the lines of an input end", "lines", 5),
-    ),
+    (52, ("the machine and the flat memory: definitions and laws", "mig_model mig_laws mig_base", 12)),
+    (52, ("what all share; words and lines", "foundation words lines", 12)),
 )
 WIDTH, COLUMN, COLUMNS, GAP, RISE, LETTER = 748, 60, 12, 12, 26, 7.0
 STYLE = (

@@ -1,5 +1,5 @@
 #!/usr/bin/env python3
-"""Lists the files of lemmas of mig_model, mig_laws and frame_texts, each with the first sentence of its head.
+"""Lists the files of lemmas of mig_model, mig_laws and page_stream, each with the first sentence of its head.
 
 python3 bench/check/lemmas.py [--write]
 
@@ -13,7 +13,7 @@ import shared  # noqa: F401
 import page
 
 CRATES = page.TOP / "crates"
-CRATES_OF_LEMMAS = ("mig_model", "mig_laws", "frame_texts")
+CRATES_OF_LEMMAS = ("mig_model", "mig_laws", "page_stream")
 
 
 def head_of(file):

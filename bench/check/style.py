@@ -23,9 +23,8 @@ VERSION = " version 14."
 # The first line of a function with its brace; and of a statement that has one.
 HEAD_OF_FUNCTION = re.compile(r"\w[^#=;]*\) \{$")
 STATEMENT = re.compile(r"\s+(\} )?(if|for|while|switch|do|else)\b.*[^;]$")
-# Sources of others' forms: what it is embedded in. The headers of the library are sources of its release, and keep
-# their lines until it is made again.
-NOT_OURS = ("bench/sources/", "crates/postmig_c/include/")
+# Sources of others' forms: what it is embedded in.
+NOT_OURS = ("bench/sources/",)
 
 
 def tracked():

@@ -4,7 +4,7 @@
 python3 bench/compare/takes.py [PROGRAM] [--runs N] [--calls N] [--seed N] [--jobs N] [--write INPUT OUTPUT]
 
 PROGRAM is that of the crate node_tests, crates/node_tests/out/node_tests unless it is named. It makes
-`Destination::take`, `take_urgent`, `install` and `pause`, and `Source::back` with what the source does in between, in
+`Destination::take`, `take_urgent`, `install` and `pause`, and `Source::take` with what the source does in between, in
 any order: no wire joins the two nodes, so every well-formed frame comes in every phase, of the node's epoch and of
 others, in either version. About half of the calls are drawn from those that the node takes in its phase, so that all
 phases are reached.
@@ -87,12 +87,16 @@ class Source(nodes.Source):
         super().__init__(dict.fromkeys(PRESENT))
         self.transmitted = 0
         self.calls = {
-            "s": self.begin, "w": self.switch, "e": self.end, "r": self.serve, "n": self.pause, "k": self.begin_epoch
+            "s": self.begin, "w": self.switch, "e": self.end, "r": self.serve, "n": self.pause, "k": self.resume
         }
         self.calls |= {"v": self.push, "x": self.push_urgent}
 
     def transmit(self, name, fields, urgent=False):
         self.transmitted += 1
+
+    def resume(self):
+        self.require("paused")
+        self.begin_epoch()
 
     def state(self):
         return (

@@ -7,8 +7,8 @@ use Rattle.std.proofs.lemmas.List.Elements.{All-nil, All-cons, All-head, All-tai
 use Rattle.mig_base.specs.declared.Prot.{Prot}
 use Rattle.mig_base.specs.declared.Prot.TheVariants.{NoAccess}
 use Rattle.mig_base.specs.declared.Area.{Area}
-use Rattle.mig_base.specs.Ranges.{in_range}
-use Rattle.mig_base.proofs.RangeLemmas.{in_range-true, in_range-false_below, in_range-false_above}
+use Rattle.foundation.specs.Ranges.{in_range}
+use Rattle.foundation.proofs.RangeLemmas.{in_range-true, in_range-false_below, in_range-false_above}
 use Rattle.area_map.specs.Areas.{prot_in, IsBefore, AreRuns, BeginsAfter}
 
 -- what a read past the end of a list gives

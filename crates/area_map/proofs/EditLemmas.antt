@@ -7,9 +7,9 @@ use Rattle.std.proofs.lemmas.List.Elements.{All-cons, All-weaker}
 use Rattle.mig_base.specs.declared.TheConstants.{HIGH_PAGE}
 use Rattle.mig_base.specs.declared.Prot.{Prot}
 use Rattle.mig_base.specs.declared.Area.{Area}
-use Rattle.mig_base.specs.Ranges.{in_range}
-use Rattle.mig_base.proofs.RangeLemmas.{in_range-false_below}
-use Rattle.mig_base.proofs.TestLemmas.{at_or_below}
+use Rattle.foundation.specs.Ranges.{in_range}
+use Rattle.foundation.proofs.RangeLemmas.{in_range-false_below}
+use Rattle.foundation.proofs.TestLemmas.{at_or_below}
 use Rattle.area_map.specs.declared.edit.Side.{Side}
 use Rattle.area_map.specs.Areas.{prot_in, IsBefore, AreRuns, EndsBefore, BeginsAfter}
 use Rattle.area_map.specs.Edits.{StandsBelow, StandsAbove, kept_below, kept_above, IsBelow, IsAbove, edited, IsEdit}

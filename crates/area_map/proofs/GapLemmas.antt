@@ -6,9 +6,10 @@ use Rattle.std.proofs.lemmas.Bool.{cases_lt}
 use Rattle.mig_base.specs.declared.TheConstants.{LOW_PAGE, HIGH_PAGE}
 use Rattle.mig_base.specs.declared.Prot.{Prot}
 use Rattle.mig_base.specs.declared.Area.{Area}
-use Rattle.mig_base.specs.Ranges.{free_place}
-use Rattle.mig_base.proofs.RangeLemmas.{in_range-true, in_range-false_above, IsFreeRun, free_place-is, free_place-none}
-use Rattle.mig_base.proofs.TestLemmas.{at_or_below, some_is_none, missing_none}
+use Rattle.mig_base.specs.FreePlaces.{free_place}
+use Rattle.foundation.proofs.RangeLemmas.{in_range-true, in_range-false_above}
+use Rattle.mig_base.proofs.FreePlaceLemmas.{IsFreeRun, free_place-is, free_place-none}
+use Rattle.foundation.proofs.TestLemmas.{at_or_below, some_is_none, missing_none}
 use Rattle.area_map.specs.Areas.{pages_in, prot_in, AreRuns}
 use Rattle.area_map.specs.Gaps.{IsFreeRange, IsFreePage}
 use Rattle.area_map.proofs.AreaLemmas.{prot_in-rest_below, prot_in-behind}

@@ -9,9 +9,9 @@ use Rattle.std.proofs.lemmas.List.{take_all}
 use Rattle.std.proofs.lemmas.List.Elements.{All-weaker}
 use Rattle.mig_base.specs.declared.Prot.{Prot}
 use Rattle.mig_base.specs.declared.Area.{Area}
-use Rattle.mig_base.specs.Ranges.{in_range, count_below}
-use Rattle.mig_base.proofs.RangeLemmas.{count_below-same, count_below-constant, in_range_bounds}
-use Rattle.mig_base.proofs.TestLemmas.{is_some-cond}
+use Rattle.foundation.specs.Ranges.{in_range, count_below}
+use Rattle.foundation.proofs.RangeLemmas.{count_below-same, count_below-constant, in_range_bounds}
+use Rattle.foundation.proofs.TestLemmas.{is_some-cond}
 use Rattle.area_map.specs.Areas.{prot_in, pages_in, AreRuns, EndsBefore, BeginsAfter}
 use Rattle.area_map.proofs.AreaLemmas.{no_area, AreRuns-take, AreRuns-drop, EndsBy, ends_at, prot_in-split, prot_in-past, prot_in-before, option_or-none}
 use Rattle.area_map.proofs.MoveLemmas.{IsPart, one_more}

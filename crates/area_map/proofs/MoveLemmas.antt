@@ -8,8 +8,8 @@ use Rattle.std.proofs.lemmas.List.{take_more}
 use Rattle.std.proofs.lemmas.Bool.{cases_Bool}
 use Rattle.mig_base.specs.declared.Prot.{Prot}
 use Rattle.mig_base.specs.declared.Area.{Area}
-use Rattle.mig_base.specs.Ranges.{in_range}
-use Rattle.mig_base.proofs.RangeLemmas.{in_range_bounds}
+use Rattle.foundation.specs.Ranges.{in_range}
+use Rattle.foundation.proofs.RangeLemmas.{in_range_bounds}
 use Rattle.mig_base.specs.Pages.{set_range, remove_range}
 use Rattle.mig_base.proofs.PageLemmas.{get-set_range, get-remove_range}
 use Rattle.area_map.specs.Areas.{pages_in, prot_in, AreRuns}

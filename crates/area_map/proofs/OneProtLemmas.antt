@@ -5,7 +5,7 @@ use Rattle.std.proofs.lemmas.List.Elements.{All-head}
 use Rattle.std.proofs.lemmas.Option.{same_Some}
 use Rattle.mig_base.specs.declared.Prot.{Prot}
 use Rattle.mig_base.specs.declared.Area.{Area}
-use Rattle.mig_base.proofs.TestLemmas.{at_or_below, some_is_none}
+use Rattle.foundation.proofs.TestLemmas.{at_or_below, some_is_none}
 use Rattle.area_map.specs.Areas.{prot_in, IsBefore, AreRuns, BeginsAfter}
 use Rattle.area_map.specs.Ranges.{HasOneProt}
 use Rattle.area_map.proofs.AreaLemmas.{no_area, runs_at, prot_in-first, prot_in-rest_above, prot_in-rest_below, prot_in-behind, prot_in-from, prot_in-at, prot_in-outside}

@@ -8,7 +8,7 @@ use Rattle.std.proofs.lemmas.Option.{same_Some}
 use Rattle.mig_base.specs.declared.TheConstants.{HIGH_PAGE}
 use Rattle.mig_base.specs.declared.Prot.{Prot}
 use Rattle.mig_base.specs.declared.Area.{Area}
-use Rattle.mig_base.proofs.TestLemmas.{at_or_below}
+use Rattle.foundation.proofs.TestLemmas.{at_or_below}
 use Rattle.area_map.specs.Areas.{prot_in, IsArea, IsBefore, AreRuns, EndsBefore, BeginsAfter}
 use Rattle.area_map.specs.Edits.{StandsBelow, StandsAbove, IsBelow, IsAbove}
 use Rattle.area_map.proofs.AreaLemmas.{no_area, AreRuns-take, AreRuns-drop, AreRuns-append, runs_at, before_at, ends_by, prot_in-append, option_or-none, prot_in-split, prot_in-past, prot_in-first, prot_in-rest_above, prot_in-rest_below, prot_in-behind, prot_in-from, prot_in-at, drop_at_area}

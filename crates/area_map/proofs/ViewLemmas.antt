@@ -4,7 +4,7 @@ use Rattle.std.specs.FinMap.{FinMap, get, get-empty}
 use Rattle.std.specs.Ordering.{nat_cmp}
 use Rattle.mig_base.specs.declared.Prot.{Prot}
 use Rattle.mig_base.specs.declared.Area.{Area}
-use Rattle.mig_base.specs.Ranges.{in_range}
+use Rattle.foundation.specs.Ranges.{in_range}
 use Rattle.mig_base.specs.Pages.{set_range, remove_range}
 use Rattle.mig_base.proofs.PageLemmas.{get-set_range, get-remove_range, same_pages}
 use Rattle.mig_base.specs.declared.TheConstants.{HIGH_PAGE}

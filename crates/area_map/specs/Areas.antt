@@ -8,7 +8,7 @@ use Rattle.std.specs.FinMap.{FinMap, empty}
 use Rattle.mig_base.specs.declared.TheConstants.{HIGH_PAGE}
 use Rattle.mig_base.specs.declared.Prot.{Prot}
 use Rattle.mig_base.specs.declared.Area.{Area}
-use Rattle.mig_base.specs.Ranges.{in_range}
+use Rattle.foundation.specs.Ranges.{in_range}
 use Rattle.mig_base.specs.Pages.{set_range}
 
 -- the map from each page of the areas to its protection

@@ -5,7 +5,7 @@ use Rattle.std.specs.Option.{option_to_list}
 use Rattle.mig_base.specs.declared.TheConstants.{HIGH_PAGE}
 use Rattle.mig_base.specs.declared.Prot.{Prot}
 use Rattle.mig_base.specs.declared.Area.{Area}
-use Rattle.mig_base.specs.Ranges.{in_range}
+use Rattle.foundation.specs.Ranges.{in_range}
 use Rattle.area_map.specs.declared.edit.Side.{Side}
 use Rattle.area_map.specs.declared.edit.Edit.{Edit}
 use Rattle.area_map.specs.Areas.{prot_in, AreRuns, EndsBefore, BeginsAfter}

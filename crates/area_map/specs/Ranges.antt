@@ -1,7 +1,7 @@
 -- Ranges of pages: one protection throughout, and a move.
 use Rattle.std.specs.Prelude.{◌≡◌, ℕ, ◌+◌, ◌-◌, ◌<◌, ◌≤◌, if◌then◌else◌, Option, Some, None}
 use Rattle.mig_base.specs.declared.Prot.{Prot}
-use Rattle.mig_base.specs.Ranges.{in_range}
+use Rattle.foundation.specs.Ranges.{in_range}
 
 -- each page of the range is mapped with the protection
 abbrev pub HasOneProt : (ℕ → Option Prot) → ℕ → ℕ → Prot → Type 0

@@ -1,7 +1,7 @@
 //! The number of mapped pages in a range.
 
 ghost use Rattle.std.specs.Prelude.{◌≡◌, ◌+◌, ◌≤◌, is_some};
-ghost use Rattle.mig_base.specs.Ranges.{count_below};
+ghost use Rattle.foundation.specs.Ranges.{count_below};
 ghost use Rattle.area_map.specs.Areas.{AreRuns, prot_in};
 
 use crate::moves::clipped;

@@ -18,11 +18,13 @@ mod within;
 
 ghost use Rattle.std.specs.Prelude.{◌≡◌, ℕ, ◌+◌, ◌/◌, ◌≤◌, ◌<◌, ◌⊎◌, ◌↔◌, true, OnOk, OnErr, IfOk, IfSome, IfNone, if◌then◌else◌};
 ghost use Rattle.std.specs.FinMap as map;
-ghost use Rattle.mig_base.specs.Ranges.{in_range, count_below, free_place};
+ghost use Rattle.foundation.specs.Ranges.{in_range, count_below};
+ghost use Rattle.mig_base.specs.FreePlaces.{free_place};
 ghost use Rattle.mig_base.specs.Pages.{set_range, remove_range};
 ghost use Rattle.area_map.specs.Areas.{AreRuns, pages_in};
 ghost use Rattle.area_map.specs.Ranges.{HasOneProt, moved_protections};
-ghost use Rattle.mig_base.specs.declared.TheConstants.{HIGH_PAGE, PAGE_SIZE};
+ghost use Rattle.foundation.specs.declared.TheConstants.{PAGE_SIZE};
+ghost use Rattle.mig_base.specs.declared.TheConstants.{HIGH_PAGE};
 
 use crate::count::mapped_between;
 use crate::edit::{apply, mapped_after, plan};

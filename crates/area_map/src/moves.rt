@@ -2,7 +2,7 @@
 
 ghost use Rattle.std.specs.Prelude.{◌≡◌, ℕ, ◌+◌, ◌-◌, ◌≤◌, OnOk, None, true, if◌then◌else◌, min, max};
 ghost use Rattle.std.specs.FinMap as map;
-ghost use Rattle.mig_base.specs.Ranges.{in_range};
+ghost use Rattle.foundation.specs.Ranges.{in_range};
 ghost use Rattle.area_map.specs.Areas.{AreRuns, prot_in};
 
 use crate::AreaMap;

@@ -18,7 +18,7 @@ use Rattle.audit.specs.declared.certificate.Certificate.{Certificate}
 use Rattle.audit.specs.declared.certificate.Certificate.TheVariants.{Certified, Missing}
 use Rattle.audit.specs.declared.certificate.Missing.TheVariants.{Differs}
 use Rattle.audit.specs.declared.certificate.Totals.{Totals}
-use Rattle.audit.specs.declared.work.Nothing.{Nothing}
+use Rattle.audit.specs.declared.work.Unjudged.{Unjudged}
 use Rattle.audit.specs.Certificates.{IsCertificate, IsCertifiedLog, MayBe, NeedsWork, certificate_from, totals_at_end}
 
 pub may_be : (log : List Event) (run : List Move) (old new : KernelTable) (totals : Totals) → IsCertified log run (kernel_of old) → kernel_of new ≡ finished (kernel_of old) → totals.owed ≡ length new.owed.items → totals.twice ≡ length new.twice.items
@@ -77,7 +77,7 @@ some_found log run found old new owed twice exact some done is_owed is_twice =
 
 -- A certificate
 
-pub needs_work : (made : Certificate) (nothing : Option Nothing) → nothing ≡ None → NeedsWork made nothing
+pub needs_work : (made : Certificate) (nothing : Option Unjudged) → nothing ≡ None → NeedsWork made nothing
 needs_work (Certified totals) nothing none = none
 needs_work (Missing why) nothing none = tt
 

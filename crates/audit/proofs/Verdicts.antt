@@ -14,7 +14,7 @@ use Rattle.audit.specs.declared.certificate.Certificate.{Certificate}
 use Rattle.audit.specs.declared.certificate.Certificate.TheVariants.{Certified, Missing}
 use Rattle.audit.specs.declared.certificate.Totals.{Totals}
 use Rattle.audit.specs.declared.findings.Finding.{Finding}
-use Rattle.audit.specs.declared.work.Nothing.{Nothing}
+use Rattle.audit.specs.declared.work.Unjudged.{Unjudged}
 use Rattle.audit.specs.Certificates.{IsCertificate, IsCertifiedInput, NeedsWork, Shows}
 use Rattle.audit.specs.Verdicts.{IsFinding, HasVerdict, FitsLog, FitsWork, IsWhole, IsSure, GoesWith, IsJudged, Audits, IsCertificateLine, IsSummary, Prints, IsReport, certified_verdict, json_summary, text_summary, is_certified, is_refused}
 use Rattle.call_log.specs.declared.complete.ReadLog.{ReadLog}
@@ -102,11 +102,11 @@ whole_too verdict.Nothing (Missing why) whole fits = fits
 whole_too verdict.Wrong (Certified totals) whole fits = fits
 whole_too verdict.Wrong (Missing why) whole fits = fits
 
-nothing_certified : (nothing : Option Nothing) → IsSome nothing → nothing ≡ None → ⊥
+nothing_certified : (nothing : Option Unjudged) → IsSome nothing → nothing ≡ None → ⊥
 nothing_certified None fits none = let e : false ≡ true = fits in absurd (cc)
 nothing_certified (Some why) fits none = absurd (cc)
 
-goes_too : (v : Verdict) (made : Certificate) (nothing : Option Nothing) → is_certified v ≡ false → FitsWork v nothing → NeedsWork made nothing → GoesWith made (certified_verdict v made)
+goes_too : (v : Verdict) (made : Certificate) (nothing : Option Unjudged) → is_certified v ≡ false → FitsWork v nothing → NeedsWork made nothing → GoesWith made (certified_verdict v made)
 goes_too verdict.Certified (Certified totals) nothing plain fits needs = tt
 goes_too verdict.Certified (Missing why) nothing plain fits needs = absurd (cc)
 goes_too verdict.Clean (Certified totals) nothing plain fits needs = tt
@@ -130,7 +130,7 @@ certified_fits v said made n by fits = subst (λ (k : Verdict). HasVerdict k n) 
 pub certified_whole : (v said : Verdict) (made : Certificate) (whole : Bool) → said ≡ certified_verdict v made → FitsLog v whole → FitsLog said whole
 certified_whole v said made whole by fits = subst (λ (k : Verdict). FitsLog k whole) (sym by) (whole_too v made whole fits)
 
-pub certified_goes : (v said : Verdict) (made : Certificate) (nothing : Option Nothing) → said ≡ certified_verdict v made → is_certified v ≡ false → FitsWork v nothing → NeedsWork made nothing → GoesWith made said
+pub certified_goes : (v said : Verdict) (made : Certificate) (nothing : Option Unjudged) → said ≡ certified_verdict v made → is_certified v ≡ false → FitsWork v nothing → NeedsWork made nothing → GoesWith made said
 certified_goes v said made nothing by plain fits needs = subst (λ (k : Verdict). GoesWith made k) (sym by) (goes_too v made nothing plain fits needs)
 
 shows_input : (entries : EntryReader) (made : Certificate) (input : List ℕ) (lines : List LogLine) → IsCertificate entries made → IsLog input lines → HasRead lines entries → Shows made input

@@ -11,7 +11,7 @@ use Rattle.audit.specs.declared.certificate.Certificate.{Certificate}
 use Rattle.audit.specs.declared.certificate.Certificate.TheVariants.{Certified, Missing}
 use Rattle.audit.specs.declared.certificate.Missing.TheVariants.{Refused, Differs}
 use Rattle.audit.specs.declared.certificate.Totals.{Totals}
-use Rattle.audit.specs.declared.work.Nothing.{Nothing}
+use Rattle.audit.specs.declared.work.Unjudged.{Unjudged}
 
 -- a kernel may have written a log with these events, and owes at its end and has put twice as many pages as this
 abbrev pub MayBe : List Event → Totals → Type 0
@@ -28,7 +28,7 @@ IsCertificate entries (Certified totals) = (lines : List LogLine) → HasRead li
 IsCertificate entries (Missing why) = Unit {0}
 
 -- a run is certified only of a log that has something to judge
-abbrev pub NeedsWork : Certificate → Option Nothing → Type 0
+abbrev pub NeedsWork : Certificate → Option Unjudged → Type 0
 NeedsWork (Certified totals) nothing = nothing ≡ None
 NeedsWork (Missing why) nothing = Unit {0}
 

@@ -15,7 +15,7 @@ use Rattle.audit.specs.declared.certificate.Missing.{Missing}
 use Rattle.audit.specs.declared.certificate.Missing.TheVariants.{Refused, Differs}
 use Rattle.audit.specs.declared.certificate.Totals.{Totals}
 use Rattle.audit.specs.declared.findings.Finding.{Finding}
-use Rattle.audit.specs.declared.work.Nothing.{Nothing}
+use Rattle.audit.specs.declared.work.Unjudged.{Unjudged}
 use Rattle.audit.specs.Certificates.{IsCertificate, IsCertifiedInput, Shows}
 use Rattle.audit.specs.Severities.{any_fails, severity_of, severity_word}
 use Rattle.kernel_rules.specs.Runs.{Event}
@@ -110,7 +110,7 @@ FitsLog verdict.Doubtful whole = whole ≡ false
 FitsLog said whole = whole ≡ true
 
 -- nothing is said to be judged only where nothing could be
-abbrev pub FitsWork : Verdict → Option Nothing → Type 0
+abbrev pub FitsWork : Verdict → Option Unjudged → Type 0
 FitsWork verdict.Nothing nothing = IsSome nothing
 FitsWork said nothing = Unit {0}
 

@@ -1,14 +1,14 @@
 //! What reads say of threads and of map calls, and no line shows: a thread touches a page, or leaves its fault; an event is queued.
 
 use crate::cases::one_page;
-use crate::needs::{Wanted, wakers_of};
+use crate::needs::{CallFilter, wakers_of};
 use crate::search::Search;
 use crate::tasks::{Task, others};
 use crate::threads::{is_unnamed, unnamed};
 use call_log::log_call::{LogCall, is_event};
+use foundation::NoMemory;
 use kernel_rules::fault::{find, is_protection};
 use kernel_rules::{Fault, Move, Phase};
-use mig_base::NoMemory;
 use uffd_log::{Errno, Message};
 
 const THREAD_ID: u64 = 0x100;
@@ -175,7 +175,7 @@ impl Search {
         };
         if matches!(call.errno(), Some(Errno::Eagain)) {
             self.drain(object, read)?;
-            return self.plan(others(Wanted::Waiting(object)));
+            return self.plan(others(CallFilter::Waiting(object)));
         }
         if call.is_ok() {
             let next = self.taken(read);
@@ -351,8 +351,8 @@ impl Search {
         }
         if self.kernel.page(space, page).is_none() {
             let range = one_page(page);
-            self.plan(others(Wanted::MovesTo { space, page }))?;
-            self.plan(others(Wanted::Registers { object, range }))?;
+            self.plan(others(CallFilter::MovesTo { space, page }))?;
+            self.plan(others(CallFilter::Registers { object, range }))?;
         }
         Ok(())
     }
@@ -378,7 +378,7 @@ impl Search {
             return self.plan(Task::Settle(call));
         }
         self.plan_thread(ThreadTask::Tell { object, message })?;
-        self.plan(others(Wanted::Tellers))
+        self.plan(others(CallFilter::Tellers))
     }
 
     fn tell(&mut self, object: u64, message: Message) -> Result<(), NoMemory> {

@@ -18,14 +18,14 @@ ghost use Rattle.audit.specs.Verdicts.{
 
 use crate::certificate::{Certificate, Missing, certificate_of};
 use crate::findings::{Finding, list_findings};
-use crate::judging::{Judged, judge};
+use crate::judging::{JudgedLog, judge};
 use crate::summary::{front_of, summary};
 use crate::trace_events::trace_of;
 use call_log::fault::LogFault;
 use call_log::input::{read_log, write_out};
 use call_log::split::first_line;
 use call_log::{CompleteLog, ReadLog};
-use mig_base::NoMemory;
+use foundation::NoMemory;
 use std::alloc::Global;
 use std::io::{Read, Write};
 
@@ -143,7 +143,7 @@ fn report_of(alloc: Global, name: &str, read: ReadLog, asked: Asked) -> Result<R
 }
 
 /// The trace events of a log, where they are asked for.
-fn events_of(alloc: Global, judged: &Judged, asked: Asked) -> Result<Vec<u8>, NoMemory>
+fn events_of(alloc: Global, judged: &JudgedLog, asked: Asked) -> Result<Vec<u8>, NoMemory>
     ensures { IfOk result (λ events. AreEvents asked events.items) }
 {
     if asked.traces {
@@ -217,7 +217,7 @@ fn print_findings(
 }
 
 /// What is said of a log, by whether a finding fails it. `whole` says that no line of it was lost.
-fn verdict_of(judged: &Judged, fails: bool, whole: bool) -> Verdict
+fn verdict_of(judged: &JudgedLog, fails: bool, whole: bool) -> Verdict
     ensures verdict { HasVerdict result fails }
     ensures log { FitsLog result whole }
     ensures plain { is_certified result ≡ false }

@@ -1,17 +1,17 @@
 //! The cases of broken rules, from what was noted of a run.
 
 use crate::history::Change;
-use crate::judging::Judged;
-use crate::notes::{Again, Area, Owed, Slept, Untold};
+use crate::judging::JudgedLog;
+use crate::notes::{Area, FaultWait, OwedPages, UnretriedCall, Untold};
 use crate::rule_names::Rule;
 use crate::search::Unexplained;
 use crate::threads::named_thread;
 use crate::waits::wait_of;
-use crate::wakes::{Twice, find_wakes};
+use crate::wakes::{SecondInstall, find_wakes};
 use call_log::log::Log;
 use call_log::log_call::LogCall;
 use call_log::pages::Range;
-use mig_base::NoMemory;
+use foundation::NoMemory;
 use std::alloc::Global;
 use uffd_log::{Answer, Errno};
 
@@ -124,7 +124,7 @@ fn before_case(log: &Log, place: u64) -> Option<Case> {
 }
 
 /// A page that the log had put when a call was to put it.
-fn twice_case(log: &Log, twice: &Twice) -> Option<Case> {
+fn twice_case(log: &Log, twice: &SecondInstall) -> Option<Case> {
     let call = log.call(twice.call)?;
     let rule = if twice.is_left_asleep() {
         Rule::PutTwice
@@ -138,7 +138,7 @@ fn twice_case(log: &Log, twice: &Twice) -> Option<Case> {
 }
 
 /// A fault that a call has read.
-fn fault_case(log: &Log, rule: Rule, slept: &Slept) -> Option<Case> {
+fn fault_case(log: &Log, rule: Rule, slept: &FaultWait) -> Option<Case> {
     let read = call_at(log, slept.read)?;
     let until = match slept.by.and_then(|place| log.call(place)) {
         Some(by) => end_of(&by),
@@ -166,7 +166,7 @@ fn untold_case(log: &Log, untold: &Untold) -> Option<Case> {
 }
 
 /// A call that was refused, and not tried again for a page that is owed.
-fn again_case(log: &Log, again: &Again) -> Option<Case> {
+fn again_case(log: &Log, again: &UnretriedCall) -> Option<Case> {
     let call = log.call(again.call)?;
     Some(Case {
         range: Some(one_page(again.page)),
@@ -183,7 +183,7 @@ fn was_gone(log: &Log, space: u32, call: Option<&LogCall>) -> bool {
 }
 
 /// The object with which pages were registered when the log ended.
-fn area_of(areas: &[Area], owed: &Owed) -> Option<u64> {
+fn area_of(areas: &[Area], owed: &OwedPages) -> Option<u64> {
     for area in areas.iter().rev() {
         if area.space == owed.space && area.range.contains(owed.range.first) {
             return Some(area.object);
@@ -193,7 +193,7 @@ fn area_of(areas: &[Area], owed: &Owed) -> Option<u64> {
 }
 
 /// Pages that were still missing when their registration ended, of an address space that was there.
-fn owed_case(judged: &Judged, owed: &Owed) -> Option<Case> {
+fn owed_case(judged: &JudgedLog, owed: &OwedPages) -> Option<Case> {
     let log = &judged.log;
     let space = u32::try_from(owed.space).ok()?;
     let call = owed.call.and_then(|place| log.call(place));
@@ -225,26 +225,26 @@ fn owed_case(judged: &Judged, owed: &Owed) -> Option<Case> {
 }
 
 /// Whether the page of a call that was refused is among these, which are owed.
-fn is_owed(owed: &Owed, again: &Again) -> bool {
+fn is_owed(owed: &OwedPages, again: &UnretriedCall) -> bool {
     owed.space == u64::from(again.space) && owed.range.contains(again.page)
 }
 
 /// Where owed pages are among others.
-fn order_of(owed: &Owed) -> (u32, u64, u64) {
+fn order_of(owed: &OwedPages) -> (u32, u64, u64) {
     (owed.call.unwrap_or(u32::MAX), owed.space, owed.range.first)
 }
 
 /// Whether one range of owed pages follows another.
-fn follows(owed: &Owed, last: &Owed) -> bool {
+fn follows(owed: &OwedPages, last: &OwedPages) -> bool {
     owed.call == last.call && owed.space == last.space && owed.range.first == last.range.end()
 }
 
 /// Ranges of owed pages, with neighbours joined.
-fn joined(alloc: Global, owed: &[Owed]) -> Result<Vec<Owed>, NoMemory> {
+fn joined(alloc: Global, owed: &[OwedPages]) -> Result<Vec<OwedPages>, NoMemory> {
     let mut sorted = Vec::new(alloc);
     sorted.extend_from_slice(owed)?;
     sorted.sort_by_key(order_of)?;
-    let mut joined: Vec<Owed> = Vec::new(alloc);
+    let mut joined: Vec<OwedPages> = Vec::new(alloc);
     for owed in &sorted {
         if let Some(last) = joined.last_mut() {
             if follows(owed, last) {
@@ -266,7 +266,7 @@ fn add(cases: &mut Vec<Case>, case: Option<Case>) -> Result<(), NoMemory> {
 }
 
 /// Adds the calls that found a page, or none.
-fn add_calls(cases: &mut Vec<Case>, alloc: Global, judged: &Judged) -> Result<(), NoMemory> {
+fn add_calls(cases: &mut Vec<Case>, alloc: Global, judged: &JudgedLog) -> Result<(), NoMemory> {
     let log = &judged.log;
     for place in &judged.notes.outside {
         if let Some(call) = call_at(log, *place) {
@@ -285,7 +285,7 @@ fn add_calls(cases: &mut Vec<Case>, alloc: Global, judged: &Judged) -> Result<()
 /// Adds the faults that nobody has resolved, and those that waited longer than these microseconds, if any are too many.
 fn add_faults(
     cases: &mut Vec<Case>,
-    judged: &Judged,
+    judged: &JudgedLog,
     late_after: Option<u64>,
 ) -> Result<(), NoMemory> {
     for slept in &judged.notes.unanswered {
@@ -308,7 +308,7 @@ fn add_faults(
 }
 
 /// Adds the pages that were left missing, and the calls that were refused for one of them.
-fn add_owed(cases: &mut Vec<Case>, alloc: Global, judged: &Judged) -> Result<(), NoMemory> {
+fn add_owed(cases: &mut Vec<Case>, alloc: Global, judged: &JudgedLog) -> Result<(), NoMemory> {
     let owed = joined(alloc, &judged.notes.owed)?;
     for again in &judged.notes.again {
         if owed.iter().any(|owed| is_owed(owed, again)) {
@@ -324,7 +324,7 @@ fn add_owed(cases: &mut Vec<Case>, alloc: Global, judged: &Judged) -> Result<(),
 /// The cases of a log, in no order. A page fault is late after these microseconds, if any is to be.
 pub(crate) fn list_cases(
     alloc: Global,
-    judged: &Judged,
+    judged: &JudgedLog,
     late_after: Option<u64>,
 ) -> Result<Vec<Case>, NoMemory> {
     let mut cases = Vec::new(alloc);

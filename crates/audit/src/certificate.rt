@@ -7,14 +7,14 @@ ghost use Rattle.kernel_rules.specs.Held.{AreTables};
 ghost use Rattle.kernel_rules.specs.Worlds.{if_made, place_of};
 ghost use Rattle.audit.specs.Certificates.{IsCertificate, MayBe, NeedsWork, certificate_from, totals_at_end};
 
-use crate::judging::Judged;
+use crate::judging::JudgedLog;
 use crate::moves::Moves;
-use crate::work::Nothing;
+use crate::work::Unjudged;
 use call_log::log::Log;
 use call_log::log_call::LogCall;
+use foundation::{NoMemory, PAGE_SIZE};
 use kernel_rules::certify::WorldTable;
 use log_entries::{EntryReader, EntryStore};
-use mig_base::{NoMemory, PAGE_SIZE};
 use std::alloc::Global;
 use std::fmt;
 use uffd_log::{Answer, Call};
@@ -40,7 +40,7 @@ pub(crate) enum Certificate {
 #[derive(Clone, Copy)]
 pub(crate) enum Missing {
     /// Nothing of the log could be judged.
-    Nothing(Nothing),
+    Nothing(Unjudged),
     /// No run was found.
     NoRun,
     /// Lines are missing in the log.
@@ -100,7 +100,7 @@ fn refused_call(log: &Log, place: u32) -> Option<Missing> {
 }
 
 /// Why a run cannot be certified, as far as the log alone shows.
-fn missing_of(judged: &Judged, entries: &EntryReader) -> Option<Missing>
+fn missing_of(judged: &JudgedLog, entries: &EntryReader) -> Option<Missing>
     ensures whole { IfNone result (entries.now.whole ≡ true) }
     ensures work { IfNone result (judged.now.nothing ≡ None) }
 {
@@ -121,7 +121,7 @@ fn missing_of(judged: &Judged, entries: &EntryReader) -> Option<Missing>
 }
 
 /// What the search found.
-fn totals_of(judged: &Judged) -> Totals {
+fn totals_of(judged: &JudgedLog) -> Totals {
     Totals {
         owed: judged.notes.owed_count,
         twice: judged.notes.twice.len(),
@@ -189,7 +189,7 @@ fn decide(found: Option<Totals>, wanted: Totals) -> Certificate
 /// Has the run that was found checked.
 pub(crate) fn certificate_of(
     alloc: Global,
-    judged: Judged,
+    judged: JudgedLog,
     entries: &EntryReader,
 ) -> Result<Certificate, NoMemory>
     ensures is { IfOk result (IsCertificate entries.now) }

@@ -2,10 +2,10 @@
 
 use crate::audit::{Asked, Form};
 use crate::cases::{Case, list_cases};
-use crate::judging::Judged;
+use crate::judging::JudgedLog;
 use crate::rule_names::Rule;
 use crate::texts::{json_text, page_text, text_of};
-use mig_base::NoMemory;
+use foundation::NoMemory;
 use std::alloc::Global;
 
 /// A finding: the line of its first case, and what it says after its severity.
@@ -19,7 +19,7 @@ pub(crate) struct Finding {
 /// The findings of a log, in the order of their lines, and what happened to the page that is asked for, in the order of the run.
 pub(crate) fn list_findings(
     alloc: Global,
-    judged: &Judged,
+    judged: &JudgedLog,
     asked: Asked,
 ) -> Result<Vec<Finding>, NoMemory> {
     let mut cases = list_cases(alloc, judged, asked.late_after)?;
@@ -40,7 +40,11 @@ pub(crate) fn list_findings(
 }
 
 /// Adds what happened to the page that is asked for, in its order.
-fn add_history(found: &mut Vec<Finding>, alloc: Global, judged: &Judged) -> Result<(), NoMemory> {
+fn add_history(
+    found: &mut Vec<Finding>,
+    alloc: Global,
+    judged: &JudgedLog,
+) -> Result<(), NoMemory> {
     for case in &judged.history.cases(alloc, &judged.log)? {
         found.push(Finding {
             line: case.line,
@@ -52,7 +56,7 @@ fn add_history(found: &mut Vec<Finding>, alloc: Global, judged: &Judged) -> Resu
 }
 
 /// A finding for all cases of a rule and an object, which follow each other.
-fn group(alloc: Global, judged: &Judged, cases: &[Case]) -> Result<Vec<Finding>, NoMemory> {
+fn group(alloc: Global, judged: &JudgedLog, cases: &[Case]) -> Result<Vec<Finding>, NoMemory> {
     let mut found = Vec::new(alloc);
     let mut end = 0usize;
     for (place, case) in cases.iter().enumerate() {
@@ -79,7 +83,7 @@ fn leading<'a>(cases: &'a [Case], first: &Case) -> &'a [Case] {
 }
 
 /// A finding for each case.
-fn list_each(alloc: Global, judged: &Judged, cases: &[Case]) -> Result<Vec<Finding>, NoMemory> {
+fn list_each(alloc: Global, judged: &JudgedLog, cases: &[Case]) -> Result<Vec<Finding>, NoMemory> {
     let mut found = Vec::new(alloc);
     for case in cases {
         found.push(Finding {

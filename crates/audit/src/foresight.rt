@@ -2,39 +2,41 @@
 
 use crate::search::Search;
 use crate::search::index::{FaultRead, message_of};
-use crate::search::spans::{At, Of};
+use crate::search::spans::{ObjectPage, Owner};
 use call_log::log_call::{LogCall, PROTECTS};
 use call_log::pages::Range;
+use foundation::NoMemory;
 use kernel_rules::answers::is_clearing;
 use kernel_rules::fault::{find, is_protection};
-use mig_base::NoMemory;
 use uffd_log::{Call, Message};
 
 /// What pages no longer are after a call.
 #[derive(Clone, Copy)]
-enum Ended {
+enum PageCondition {
     Missing,
     Protected,
     Registered,
 }
 
 /// What the pages of a call no longer are after it.
-fn ended_by(call: &LogCall) -> Option<Ended> {
+fn ended_by(call: &LogCall) -> Option<PageCondition> {
     match call.call {
-        Call::WriteProtect { mode, .. } if mode & PROTECTS == 0 => Some(Ended::Protected),
-        Call::Madvise { advice, .. } if is_clearing(advice) => Some(Ended::Protected),
-        Call::Mmap { .. } | Call::Munmap { .. } | Call::Mremap { .. } => Some(Ended::Registered),
-        _ if call.install_mode().is_some() => Some(Ended::Missing),
+        Call::WriteProtect { mode, .. } if mode & PROTECTS == 0 => Some(PageCondition::Protected),
+        Call::Madvise { advice, .. } if is_clearing(advice) => Some(PageCondition::Protected),
+        Call::Mmap { .. } | Call::Munmap { .. } | Call::Mremap { .. } => Some(
+            PageCondition::Registered,
+        ),
+        _ if call.install_mode().is_some() => Some(PageCondition::Missing),
         _ => None,
     }
 }
 
 /// Whether a fault with these flags is of what was ended.
-fn is_of(ended: Ended, flags: u64) -> bool {
+fn is_of(ended: PageCondition, flags: u64) -> bool {
     match ended {
-        Ended::Missing => !is_protection(flags),
-        Ended::Protected => is_protection(flags),
-        Ended::Registered => true,
+        PageCondition::Missing => !is_protection(flags),
+        PageCondition::Protected => is_protection(flags),
+        PageCondition::Registered => true,
     }
 }
 
@@ -62,7 +64,7 @@ impl Search {
     fn foresee_range(
         &mut self,
         call: &LogCall,
-        ended: Ended,
+        ended: PageCondition,
         object: u64,
         range: Range,
     ) -> Result<(), NoMemory> {
@@ -88,7 +90,7 @@ impl Search {
     fn foresee_read(
         &mut self,
         call: &LogCall,
-        ended: Ended,
+        ended: PageCondition,
         fault: FaultRead,
     ) -> Result<bool, NoMemory> {
         let Some(read) = self.log.call(fault.call) else {
@@ -111,7 +113,7 @@ impl Search {
             return Ok(true);
         };
         if !is_of(ended, flags) {
-            return Ok(matches!(ended, Ended::Missing));
+            return Ok(matches!(ended, PageCondition::Missing));
         }
         let access = self.access_of(fault.object, addr, flags, thread, None);
         if find(self.kernel.rules.faults(), access.thread).is_none() {
@@ -121,29 +123,29 @@ impl Search {
     }
 
     /// Whether the page of a fault may be as it was before a call, by another call that begins before the fault is read.
-    fn may_be_anew(&self, call: &LogCall, ended: Ended, fault: FaultRead) -> bool {
+    fn may_be_anew(&self, call: &LogCall, ended: PageCondition, fault: FaultRead) -> bool {
         let Some(space) = self.kernel.space_of(fault.object) else {
             return true;
         };
-        let at = At {
+        let at = ObjectPage {
             object: fault.object,
             space,
             addr: self.log.size.address(fault.page),
         };
         let (from, until) = (call.begin, fault.end);
         match ended {
-            Ended::Missing => self.may_be_cleared(at, from, until),
-            Ended::Protected => self.may_be_protected(at, fault.page, from, until),
-            Ended::Registered => self.index.is_registered(at, from, until),
+            PageCondition::Missing => self.may_be_cleared(at, from, until),
+            PageCondition::Protected => self.may_be_protected(at, fault.page, from, until),
+            PageCondition::Registered => self.index.is_registered(at, from, until),
         }
     }
 
     /// Whether a page may be write-protected by a call that ends at a line or after it, begins before another line, and has not done so.
-    fn may_be_protected(&self, at: At, page: u64, from: u32, until: u32) -> bool {
+    fn may_be_protected(&self, at: ObjectPage, page: u64, from: u32, until: u32) -> bool {
         let protections = &self.index.protected;
         let mut first = protections.first(from);
         for _ in 0..self.log.count() {
-            let of = Of::Object(at.object);
+            let of = Owner::Object(at.object);
             let Some((place, next)) = protections.next(of, at.addr, until, first) else {
                 return false;
             };
@@ -161,11 +163,11 @@ impl Search {
 
     /// Whether a page may be missing anew by a call that ends at a line or after it, and begins before another line: a madvise clears it once its event
     /// is read.
-    fn may_be_cleared(&self, at: At, from: u32, until: u32) -> bool {
+    fn may_be_cleared(&self, at: ObjectPage, from: u32, until: u32) -> bool {
         let madvises = &self.index.cleared;
         let mut first = madvises.first(from);
         for _ in 0..self.log.count() {
-            let of = Of::Space(at.space);
+            let of = Owner::Space(at.space);
             let Some((place, next)) = madvises.next(of, at.addr, until, first) else {
                 return self.index.is_registered_anew(at, from, until);
             };

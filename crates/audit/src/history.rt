@@ -3,14 +3,14 @@
 use crate::cases::{Case, call_case, one_page};
 use crate::rule_names::Rule;
 use crate::search::Search;
-use crate::tellers::moves_to;
+use crate::tellers::moved_to;
 use crate::threads::named_thread;
 use call_log::log::Log;
 use call_log::log_call::LogCall;
 use call_log::pages::Range;
+use foundation::NoMemory;
 use kernel_rules::fault::find;
 use kernel_rules::{Fault, Move, Page, Presence};
-use mig_base::NoMemory;
 use std::alloc::Global;
 use std::fmt;
 use uffd_log::{Answer, Call, Errno, Message};
@@ -76,14 +76,14 @@ impl fmt::Display for Change {
 
 /// A call, by its place in the log, or a step that no line shows.
 #[derive(Clone, Copy)]
-pub(crate) enum Doing {
+pub(crate) enum Action {
     Call(u32),
     Step(Move),
 }
 
 /// A page of an address space, with what is known of it and the fault of the thread that a step is of.
 #[derive(Clone, Copy)]
-pub(crate) struct Seen {
+pub(crate) struct PageState {
     space: u32,
     page: Option<Page>,
     fault: Option<Fault>,
@@ -92,10 +92,10 @@ pub(crate) struct Seen {
 /// Something that happened to the page.
 #[derive(Clone, Copy)]
 struct Happening {
-    doing: Doing,
+    action: Action,
     /// The line of the log that was looked at.
     line: u32,
-    seen: Seen,
+    seen: PageState,
     after: Option<Page>,
 }
 
@@ -161,7 +161,7 @@ fn message_of(log: &Log, call: &LogCall, page: u64) -> Option<Message> {
 
 impl Search {
     /// The page that is asked for, if a step is of it.
-    pub(crate) fn seen_by_step(&self, step: Move) -> Option<Seen> {
+    pub(crate) fn seen_by_step(&self, step: Move) -> Option<PageState> {
         let page = self.history.page?;
         let fault = match step {
             Move::Queues { thread } | Move::Leaves { thread } => {
@@ -170,7 +170,7 @@ impl Search {
             _ => None,
         };
         let space = self.space_of_step(step, page, fault)?;
-        Some(Seen {
+        Some(PageState {
             space,
             page: self.kernel.page(space, page),
             fault,
@@ -207,10 +207,10 @@ impl Search {
     }
 
     /// The page that is asked for, if a call is of it.
-    pub(crate) fn seen_by_call(&self, call: &LogCall) -> Option<Seen> {
+    pub(crate) fn seen_by_call(&self, call: &LogCall) -> Option<PageState> {
         let page = self.history.page?;
         let space = self.space_of_call(call, page)?;
-        Some(Seen {
+        Some(PageState {
             space,
             page: self.kernel.page(space, page),
             fault: None,
@@ -219,12 +219,11 @@ impl Search {
 
     /// The address space of a call that is of a page.
     fn space_of_call(&self, call: &LogCall, page: u64) -> Option<u32> {
-        let is_there = match self.log.pages_of(call) {
-            Some(range) => range.contains(page),
-            None => false,
-        };
+        let pages = self.log.pages_of(call);
+        let is_there = pages.is_some_and(|range| range.contains(page));
         if call.is_map_call() {
-            let is_of = is_there || moves_to(&self.log, call, page);
+            let is_of = is_there
+                || moved_to(self.log.size, call).is_some_and(|to| to.contains(page));
             return if is_of { Some(call.space) } else { None };
         }
         let object = call.object()?;
@@ -246,14 +245,18 @@ impl Search {
     }
 
     /// Notes what was done, if it was of the page that is asked for.
-    pub(crate) fn note_doing(&mut self, doing: Doing, seen: Option<Seen>) -> Result<(), NoMemory> {
+    pub(crate) fn note_action(
+        &mut self,
+        action: Action,
+        seen: Option<PageState>,
+    ) -> Result<(), NoMemory> {
         let (Some(seen), Some(page)) = (seen, self.history.page) else {
             return Ok(());
         };
         let line = self.line;
         let after = self.kernel.page(seen.space, page);
         self.history.happened.push(Happening {
-            doing,
+            action,
             line,
             seen,
             after,
@@ -314,9 +317,9 @@ fn case_of(log: &Log, page: u64, happening: &Happening) -> Option<Case> {
         before: State(happening.seen.page),
         after: State(happening.after),
     };
-    match happening.doing {
-        Doing::Call(place) => case_of_call(log, place, page, change),
-        Doing::Step(step) => case_of_step(log, step, page, happening, change),
+    match happening.action {
+        Action::Call(place) => case_of_call(log, place, page, change),
+        Action::Step(step) => case_of_step(log, step, page, happening, change),
     }
 }
 

@@ -1,15 +1,15 @@
 //! The kernel of a run that is being looked for, which `kernel_rules` moves, and what is noted of its calls for findings.
 
 use crate::cases::{one_page, stopped_at};
-use crate::notes::{Again, Area, Notes, Slept, Stopped, Untold};
+use crate::notes::{Area, FaultWait, Notes, StoppedCall, UnretriedCall, Untold};
 use call_log::log::Log;
 use call_log::log_call::{LogCall, has_put};
 use call_log::pages::Range;
+use foundation::NoMemory;
 use indexmap::IndexSet;
 use kernel_rules::answers::is_clearing;
 use kernel_rules::fault::{find, is_protection};
 use kernel_rules::{Ending, Made, Move, Object, Page, Phase, Presence};
-use mig_base::NoMemory;
 use std::alloc::Global;
 use uffd_log::{Answer, Call, Descriptor, Errno, Message};
 
@@ -217,7 +217,7 @@ impl Kernel {
     /// Notes that a call was refused with EAGAIN.
     fn note_refused(&mut self, place: u32, space: u32, range: Range) -> Result<(), NoMemory> {
         self.notes.note_tried(space, range);
-        self.notes.again.push(Again {
+        self.notes.again.push(UnretriedCall {
             call: place,
             space,
             page: range.first,
@@ -282,7 +282,7 @@ impl Kernel {
         }
         if self.rules.twice().len() > twice {
             let waits = self.sleeps_at(call.object(), stopped_at(log, call));
-            self.notes.twice.push(Stopped { call: place, waits })?;
+            self.notes.twice.push(StoppedCall { call: place, waits })?;
         }
         Ok(made)
     }
@@ -332,11 +332,11 @@ impl Kernel {
     }
 
     /// The faults that were read, of threads that sleep.
-    fn sleepers(&self) -> Result<Vec<Slept>, NoMemory> {
+    fn sleepers(&self) -> Result<Vec<FaultWait>, NoMemory> {
         let mut slept = Vec::new(self.alloc);
         for fault in self.rules.faults() {
             if let (Some(read), Some(space)) = (fault.read_by, self.space_of(fault.object)) {
-                slept.push(Slept {
+                slept.push(FaultWait {
                     read,
                     space,
                     fault: *fault,
@@ -348,11 +348,11 @@ impl Kernel {
     }
 
     /// Those whose threads no longer sleep, after a call, if it was one.
-    fn over(&self, slept: &[Slept], by: Option<u32>) -> Result<Vec<Slept>, NoMemory> {
+    fn over(&self, slept: &[FaultWait], by: Option<u32>) -> Result<Vec<FaultWait>, NoMemory> {
         let mut over = Vec::new(self.alloc);
         for slept in slept {
             if find(self.rules.faults(), slept.fault.thread).is_none() {
-                over.push(Slept { by, ..*slept })?;
+                over.push(FaultWait { by, ..*slept })?;
             }
         }
         Ok(over)
@@ -361,7 +361,7 @@ impl Kernel {
     /// Notes the faults that a step has ended, where it leaves reads unanswered, of which there were this many. Whether it does.
     fn note_unanswered(
         &mut self,
-        slept: &[Slept],
+        slept: &[FaultWait],
         count: usize,
         by: Option<u32>,
     ) -> Result<bool, NoMemory> {

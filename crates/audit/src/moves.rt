@@ -1,12 +1,12 @@
 //! A run that was found, as the moves that the checker of `kernel_rules` takes, one after another.
 
-use crate::judging::Judged;
-use crate::run::{Late, Run, What};
+use crate::judging::JudgedLog;
+use crate::run::{InsertedStep, Run, RunStep};
 use call_log::call_table::narrow;
 use call_log::log::Log;
+use foundation::NoMemory;
 use kernel_rules::Move;
 use log_entries::EntryStore;
-use mig_base::NoMemory;
 use std::alloc::Global;
 use uffd_log::Answer;
 
@@ -30,7 +30,7 @@ struct Lines {
 pub(crate) struct Moves {
     calls: Vec<Lines>,
     run: Run,
-    late: Vec<Late>,
+    late: Vec<InsertedStep>,
     /// The ending that a call is given which never returned: that of a call that was done.
     done: usize,
     /// The next step, and the next one that was put in later.
@@ -48,7 +48,7 @@ impl Moves {
     /// The moves of the run that was found, of a log with these entries.
     pub(crate) fn new(
         alloc: Global,
-        judged: Judged,
+        judged: JudgedLog,
         entries: &EntryStore,
     ) -> Result<Moves, NoMemory> {
         let (log, run) = parts_of(judged);
@@ -123,7 +123,7 @@ impl Moves {
     }
 
     /// The next step before the next line.
-    fn next_step(&mut self) -> Option<What> {
+    fn next_step(&mut self) -> Option<RunStep> {
         let step = self.run.steps.get(self.next).copied()?;
         if step.lines != self.lines {
             return None;
@@ -152,21 +152,21 @@ impl Moves {
     }
 
     /// The move of a step, with calls by their lines.
-    fn move_of(&self, what: What) -> Option<Move> {
+    fn move_of(&self, what: RunStep) -> Option<Move> {
         match what {
-            What::Effect(place) => {
+            RunStep::Effect(place) => {
                 let (key, at) = self.ending_of(place)?;
                 Some(Move::Effect { key, at })
             }
-            What::Refuses(place) => {
+            RunStep::Refuses(place) => {
                 let (key, at) = self.ending_of(place)?;
                 Some(Move::Refuses { key, at })
             }
-            What::Starts(place) => {
+            RunStep::Starts(place) => {
                 let (key, at) = self.ending_of(place)?;
                 Some(Move::Starts { key, at })
             }
-            What::Reads(place) => {
+            RunStep::Reads(place) => {
                 let (key, at) = self.ending_of(place)?;
                 Some(Move::Reads { key, at })
             }
@@ -185,7 +185,7 @@ impl Moves {
     }
 
     /// The same of a step that no line shows.
-    fn move_of_unseen(&self, what: What) -> Option<Move> {
+    fn move_of_unseen(&self, what: RunStep) -> Option<Move> {
         Some(match self.run.unseen(what)? {
             Move::Tells { key } => Move::Tells {
                 key: self.begin_of(key)?,
@@ -203,8 +203,8 @@ impl Moves {
 }
 
 /// The log and its run. The kernel is gone, with its pages.
-fn parts_of(judged: Judged) -> (Log, Run) {
-    let Judged { log, run, .. } = judged;
+fn parts_of(judged: JudgedLog) -> (Log, Run) {
+    let JudgedLog { log, run, .. } = judged;
     (log, run)
 }
 

@@ -3,9 +3,9 @@
 use crate::cases::one_page;
 use crate::polls::PROTECTED_STORE;
 use crate::search::index::{FaultRead, message_of};
-use crate::search::spans::At;
+use crate::search::spans::ObjectPage;
 use crate::search::{Open, Search};
-use crate::tellers::{changes, moves_to};
+use crate::tellers::{changes, moved_to};
 use call_log::log_call::{COPY_PROTECTS, LogCall, PROTECTS, has_put, is_event};
 use call_log::pages::{PageSize, Range};
 use kernel_rules::fault::{find, is_protection, stops};
@@ -14,7 +14,7 @@ use uffd_log::{Call, Errno, Message};
 
 /// Which open calls are looked for.
 #[derive(Clone, Copy)]
-pub(crate) enum Wanted {
+pub(crate) enum CallFilter {
     /// Those that wake the threads at a page of an object.
     Wakers {
         object: u64,
@@ -39,7 +39,7 @@ pub(crate) enum Wanted {
     Waiting(u64),
     /// Reads that find nothing.
     Empty(u64),
-    /// Reads that return a fault of some pages of an address space, but for those that return an event of this map call, which has to tell of it first.
+    /// Reads that return a fault of some pages of an address space, but for those that return an event of this map call, which must tell of it first.
     FaultsOfSpace {
         space: u32,
         range: Range,
@@ -125,8 +125,8 @@ pub(crate) enum Wanted {
 }
 
 /// The calls that wake the thread of a fault.
-pub(crate) fn wakers_of(fault: Fault) -> Wanted {
-    Wanted::Wakers {
+pub(crate) fn wakers_of(fault: Fault) -> CallFilter {
+    CallFilter::Wakers {
         object: fault.object,
         page: fault.page,
     }
@@ -171,7 +171,7 @@ pub(crate) fn is_refused_for_now(call: &LogCall) -> bool {
 
 impl Search {
     /// The first open call from this place of the log on that is looked for.
-    pub(crate) fn next_open(&self, wanted: Wanted, from: u32) -> Option<u32> {
+    pub(crate) fn next_open(&self, wanted: CallFilter, from: u32) -> Option<u32> {
         for open in &self.open {
             if open.call < from {
                 continue;
@@ -247,33 +247,33 @@ impl Search {
     }
 
     /// Whether an open call is what is looked for.
-    fn is_wanted(&self, wanted: Wanted, open: Open, call: &LogCall) -> bool {
+    fn is_wanted(&self, wanted: CallFilter, open: Open, call: &LogCall) -> bool {
         let size = self.log.size;
         let place = open.call;
         match wanted {
-            Wanted::Protecting { space, range } => {
+            CallFilter::Protecting { space, range } => {
                 self.kernel.rules.has_begun(u64::from(place))
                     && self.has_page_in(call, space, range)
             }
-            Wanted::Wakers { object, page } => call.wakes(size, object, page),
-            Wanted::Tellers => call.is_map_call() || matches!(call.call, Call::Fork),
-            Wanted::RefusedDuring(key) => self.is_refused_during(key, call),
-            Wanted::Clears { space, page } => self.may_clear(call, space, page),
-            Wanted::MovesTo { space, page } => call.space == space
-                && moves_to(&self.log, call, page),
-            Wanted::OfObject(object) => call.object() == Some(object),
-            Wanted::Registers { object, range } => {
+            CallFilter::Wakers { object, page } => call.wakes(size, object, page),
+            CallFilter::Tellers => call.is_map_call() || matches!(call.call, Call::Fork),
+            CallFilter::RefusedDuring(key) => self.is_refused_during(key, call),
+            CallFilter::Clears { space, page } => self.may_clear(call, space, page),
+            CallFilter::MovesTo { space, page } => call.space == space
+                && moved_to(self.log.size, call).is_some_and(|to| to.contains(page)),
+            CallFilter::OfObject(object) => call.object() == Some(object),
+            CallFilter::Registers { object, range } => {
                 call.object() == Some(object) && self.registers(call, range)
             }
-            Wanted::Unregisters { space, range } => self.unregisters(call, space, range),
-            Wanted::Protects { object, page } => {
+            CallFilter::Unregisters { space, range } => self.unregisters(call, space, range),
+            CallFilter::Protects { object, page } => {
                 let may_be = self.is_bare(object, page) && !protects_several(size, call);
                 may_be && self.may_protect(place, call, object, page)
             }
-            Wanted::Bares { object, page } => {
+            CallFilter::Bares { object, page } => {
                 bares(call) && call.object() == Some(object) && call.covers(size, page)
             }
-            Wanted::Protected {
+            CallFilter::Protected {
                 object,
                 range,
                 line,
@@ -287,53 +287,53 @@ impl Search {
     }
 
     /// The same of one that reads, with the messages that it still has to take.
-    fn is_wanted_read(&self, wanted: Wanted, call: &LogCall, messages: &[Message]) -> bool {
+    fn is_wanted_read(&self, wanted: CallFilter, call: &LogCall, messages: &[Message]) -> bool {
         let Some(object) = call.object() else {
             return false;
         };
         match wanted {
-            Wanted::Faults { object: on, range } => {
+            CallFilter::Faults { object: on, range } => {
                 object == on && self.has_fault(messages, range)
             }
-            Wanted::FaultsNow { object: on, range } => {
+            CallFilter::FaultsNow { object: on, range } => {
                 object == on
                     && self.has_fault(messages, range)
                     && self.may_be_read(object, messages)
             }
-            Wanted::MissingFaults { object: on, range } => {
+            CallFilter::MissingFaults { object: on, range } => {
                 object == on && self.has_missing_fault(messages, range)
             }
-            Wanted::Waiting(on) => object == on && self.has_waiting(object, messages),
-            Wanted::Empty(on) => object == on && call.errno() == Some(Errno::Eagain),
-            Wanted::FaultsOfSpace { space, range, by } => {
+            CallFilter::Waiting(on) => object == on && self.has_waiting(object, messages),
+            CallFilter::Empty(on) => object == on && call.errno() == Some(Errno::Eagain),
+            CallFilter::FaultsOfSpace { space, range, by } => {
                 self.kernel.space_of(object) == Some(space)
                     && self.has_fault(messages, range)
                     && !self.has_event_of(object, messages, by)
                     && !self.needs_clearing(object, messages, range, by)
             }
-            Wanted::Events => messages.iter().any(is_event),
+            CallFilter::Events => messages.iter().any(is_event),
             _ => false,
         }
     }
 
     /// The same of one that puts pages.
-    fn is_wanted_install(&self, wanted: Wanted, place: u32, call: &LogCall) -> bool {
+    fn is_wanted_install(&self, wanted: CallFilter, place: u32, call: &LogCall) -> bool {
         let size = self.log.size;
         if call.install_mode().is_none() {
             return false;
         }
         match wanted {
-            Wanted::Installs { object, page } => {
+            CallFilter::Installs { object, page } => {
                 call.object() == Some(object) && call.covers(size, page)
             }
-            Wanted::Puts { object, page } => {
+            CallFilter::Puts { object, page } => {
                 call.object() == Some(object) && call.is_ok() && call.covers(size, page)
             }
-            Wanted::PutIn { space, range } => self.is_put_in(call, space, range),
-            Wanted::PutUntil { space, line } => {
+            CallFilter::PutIn { space, range } => self.is_put_in(call, space, range),
+            CallFilter::PutUntil { space, line } => {
                 call.is_ok() && self.watches_space(call, space) && 0 < call.end && call.end < line
             }
-            Wanted::PutBefore { space, range, line } => {
+            CallFilter::PutBefore { space, range, line } => {
                 self.is_put_in(call, space, range)
                     && self.is_missing_after(place, call, space, line)
             }
@@ -343,12 +343,9 @@ impl Search {
 
     /// Whether a call registers a page of a range.
     fn registers(&self, call: &LogCall, range: Range) -> bool {
-        match self.log.pages_of(call) {
-            Some(pages) if matches!(call.call, Call::Register { .. }) => {
-                call.is_ok() && pages.common(range).count > 0
-            }
-            _ => false,
-        }
+        let is_of = matches!(call.call, Call::Register { .. }) && call.is_ok();
+        let pages = self.log.pages_of(call);
+        is_of && pages.is_some_and(|pages| pages.common(range).count > 0)
     }
 
     /// Whether a call takes the registration of a page of a range away.
@@ -358,10 +355,7 @@ impl Search {
             Call::Mmap { .. } | Call::Munmap { .. } | Call::Mremap { .. } => call.space == space,
             _ => false,
         };
-        match self.log.pages_of(call) {
-            Some(pages) => is_of && call.is_ok() && pages.common(range).count > 0,
-            None => false,
-        }
+        is_of && call.is_ok() && changes(self.log.size, call, range)
     }
 
     /// Whether each page of a range is registered.
@@ -376,10 +370,8 @@ impl Search {
 
     /// Whether a page of a call is in a range of an address space.
     fn has_page_in(&self, call: &LogCall, space: u32, range: Range) -> bool {
-        match self.log.pages_of(call) {
-            Some(pages) => self.watches_space(call, space) && pages.common(range).count > 0,
-            None => false,
-        }
+        let pages = self.log.pages_of(call);
+        self.watches_space(call, space) && pages.is_some_and(|pages| pages.common(range).count > 0)
     }
 
     fn watches_space(&self, call: &LogCall, space: u32) -> bool {
@@ -530,7 +522,7 @@ impl Search {
         let (Some(object), Some((_, page))) = (call.object(), self.first_page(call)) else {
             return false;
         };
-        let at = At {
+        let at = ObjectPage {
             object,
             space,
             addr: self.log.size.address(page),

@@ -1,14 +1,14 @@
 //! What is noted of a run for findings.
 
 use call_log::pages::Range;
+use foundation::NoMemory;
 use indexmap::IndexSet;
 use kernel_rules::{Difference, Fault};
-use mig_base::NoMemory;
 use std::alloc::Global;
 
 /// Pages that were registered, and still missing when that ended: by a call, or by the end of the log.
 #[derive(Clone, Copy)]
-pub(crate) struct Owed {
+pub(crate) struct OwedPages {
     pub(crate) call: Option<u32>,
     pub(crate) space: u64,
     pub(crate) range: Range,
@@ -16,7 +16,7 @@ pub(crate) struct Owed {
 
 /// A call that was refused with EAGAIN, the first page of which no later call was to put.
 #[derive(Clone, Copy)]
-pub(crate) struct Again {
+pub(crate) struct UnretriedCall {
     pub(crate) call: u32,
     pub(crate) space: u32,
     pub(crate) page: u64,
@@ -24,7 +24,7 @@ pub(crate) struct Again {
 
 /// A fault that a call has read.
 #[derive(Clone, Copy)]
-pub(crate) struct Slept {
+pub(crate) struct FaultWait {
     pub(crate) read: u64,
     /// The address space of its page.
     pub(crate) space: u32,
@@ -42,7 +42,7 @@ pub(crate) struct Untold {
 
 /// A call that has stopped at a page which the log had put.
 #[derive(Clone, Copy)]
-pub(crate) struct Stopped {
+pub(crate) struct StoppedCall {
     pub(crate) call: u32,
     /// Whether a thread has found this page missing, and sleeps there.
     pub(crate) waits: bool,
@@ -60,13 +60,13 @@ pub(crate) struct Area {
 #[derive(Drop)]
 pub(crate) struct Notes {
     /// The faults that calls have resolved.
-    pub(crate) waits: Vec<Slept>,
-    pub(crate) again: Vec<Again>,
+    pub(crate) waits: Vec<FaultWait>,
+    pub(crate) again: Vec<UnretriedCall>,
     pub(crate) untold: Vec<Untold>,
     /// The calls by which registrations of owed pages ended, or the end of the log, each with the number of pages that were owed before.
     pub(crate) ended: Vec<(usize, Option<u32>)>,
     /// The pages that are owed, but those that were given back.
-    pub(crate) owed: Vec<Owed>,
+    pub(crate) owed: Vec<OwedPages>,
     /// How many are owed with those.
     pub(crate) owed_count: usize,
     /// The registered pages, each with its space, that their owner gave back.
@@ -75,9 +75,9 @@ pub(crate) struct Notes {
     /// How many pages were registered of which nothing was known when that ended.
     pub(crate) unknown: u64,
     /// The faults that nobody has resolved.
-    pub(crate) unanswered: Vec<Slept>,
+    pub(crate) unanswered: Vec<FaultWait>,
     /// The calls that stopped at a page which the log had put, and at another one that was there.
-    pub(crate) twice: Vec<Stopped>,
+    pub(crate) twice: Vec<StoppedCall>,
     pub(crate) before: Vec<u64>,
     /// The calls on pages that were not registered before they began.
     pub(crate) outside: Vec<u64>,
@@ -152,7 +152,7 @@ impl Notes {
             first: page,
             count: 1,
         };
-        self.owed.push(Owed { call, space, range })?;
+        self.owed.push(OwedPages { call, space, range })?;
         Ok(())
     }
 }

@@ -2,15 +2,15 @@
 //! or nobody reads it.
 
 use crate::accesses::{Access, ThreadTask};
-use crate::needs::{Wanted, wakers_of};
+use crate::needs::{CallFilter, wakers_of};
 use crate::search::{Put, Search};
 use crate::tasks::{Task, others};
 use crate::threads::stranger;
 use call_log::log_call::{DONTWAKE, Kind, LogCall, POLLIN, is_event};
 use call_log::pages::Range;
+use foundation::NoMemory;
 use kernel_rules::fault::{find, stops};
 use kernel_rules::{Fault, Move, Phase};
-use mig_base::NoMemory;
 use uffd_log::{Answer, Errno, Message};
 
 /// How many calls after a poll are looked at, and reads after a call.
@@ -91,7 +91,7 @@ impl Search {
             return Ok(());
         }
         self.plan_poll(PollTask::Find(poll))?;
-        self.plan(others(Wanted::Empty(object)))
+        self.plan(others(CallFilter::Empty(object)))
     }
 
     /// A message comes before the answer of a poll, and after the reads under way that find nothing.

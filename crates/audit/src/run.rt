@@ -1,8 +1,8 @@
 //! A run of a log: its lines in their order, with the effects of calls put in between, and what no line shows.
 
 use call_log::call_table::narrow;
+use foundation::NoMemory;
 use kernel_rules::Move;
-use mig_base::NoMemory;
 use std::alloc::Global;
 
 /// A thread that finds that it has to wait at a page.
@@ -18,7 +18,7 @@ struct Sight {
 /// messages one after another; or something that no line shows, by its place in a list of
 /// the run.
 #[derive(Clone, Copy)]
-pub(crate) enum What {
+pub(crate) enum RunStep {
     Effect(u32),
     Refuses(u32),
     Starts(u32),
@@ -33,20 +33,20 @@ pub(crate) enum What {
 #[derive(Clone, Copy)]
 pub(crate) struct Step {
     pub(crate) lines: u32,
-    pub(crate) what: What,
+    pub(crate) what: RunStep,
 }
 
 /// A step that was put in before another one, which is named by its place.
 #[derive(Clone, Copy)]
-pub(crate) struct Late {
+pub(crate) struct InsertedStep {
     pub(crate) before: u32,
-    pub(crate) what: What,
+    pub(crate) what: RunStep,
 }
 
 #[derive(Drop)]
 pub(crate) struct Run {
     pub(crate) steps: Vec<Step>,
-    pub(crate) late: Vec<Late>,
+    pub(crate) late: Vec<InsertedStep>,
     sights: Vec<Sight>,
     /// Of the threads that queue their fault or leave it.
     threads: Vec<u64>,
@@ -78,7 +78,7 @@ impl Run {
     }
 
     /// A step before the next line.
-    pub(crate) fn add(&mut self, what: What) -> Result<(), NoMemory> {
+    pub(crate) fn add(&mut self, what: RunStep) -> Result<(), NoMemory> {
         let lines = self.lines;
         self.steps.push(Step { lines, what })?;
         Ok(())
@@ -90,7 +90,7 @@ impl Run {
     }
 
     /// Keeps what no line shows.
-    fn keep(&mut self, unseen: Move) -> Result<What, NoMemory> {
+    fn keep(&mut self, unseen: Move) -> Result<RunStep, NoMemory> {
         match unseen {
             Move::Sees {
                 thread,
@@ -105,14 +105,14 @@ impl Run {
                     page,
                     flags,
                 })?;
-                Ok(What::Sees(place))
+                Ok(RunStep::Sees(place))
             }
-            Move::Queues { thread } => Ok(What::Queues(self.keep_thread(thread)?)),
-            Move::Leaves { thread } => Ok(What::Leaves(self.keep_thread(thread)?)),
+            Move::Queues { thread } => Ok(RunStep::Queues(self.keep_thread(thread)?)),
+            Move::Leaves { thread } => Ok(RunStep::Leaves(self.keep_thread(thread)?)),
             _ => {
                 let place = narrow(self.others.len())?;
                 self.others.push(unseen)?;
-                Ok(What::Other(place))
+                Ok(RunStep::Other(place))
             }
         }
     }
@@ -124,10 +124,11 @@ impl Run {
     }
 
     /// What a step does that no line shows. Calls are named by their places in the log.
-    pub(crate) fn unseen(&self, what: What) -> Option<Move> {
+    pub(crate) fn unseen(&self, what: RunStep) -> Option<Move> {
         match what {
-            What::Effect(_) | What::Refuses(_) | What::Starts(_) | What::Reads(_) => None,
-            What::Sees(place) => {
+            RunStep::Effect(_) | RunStep::Refuses(_) | RunStep::Starts(_) | RunStep::Reads(_) =>
+                None,
+            RunStep::Sees(place) => {
                 let Sight {
                     thread,
                     object,
@@ -141,36 +142,36 @@ impl Run {
                     flags,
                 })
             }
-            What::Queues(place) => {
+            RunStep::Queues(place) => {
                 let thread = self.threads.get(place as usize).copied()?;
                 Some(Move::Queues { thread })
             }
-            What::Leaves(place) => {
+            RunStep::Leaves(place) => {
                 let thread = self.threads.get(place as usize).copied()?;
                 Some(Move::Leaves { thread })
             }
-            What::Other(place) => self.others.get(place as usize).copied(),
+            RunStep::Other(place) => self.others.get(place as usize).copied(),
         }
     }
 
     /// Puts a step in before another one, and after those that were put in before that.
     pub(crate) fn put_unseen_before(&mut self, before: u32, unseen: Move) -> Result<(), NoMemory> {
         let what = self.keep(unseen)?;
-        self.late.push(Late { before, what })?;
+        self.late.push(InsertedStep { before, what })?;
         Ok(())
     }
 
     /// The same of the effect of a call.
     pub(crate) fn put_effect_before(&mut self, before: u32, call: u32) -> Result<(), NoMemory> {
-        let what = What::Effect(call);
-        self.late.push(Late { before, what })?;
+        let what = RunStep::Effect(call);
+        self.late.push(InsertedStep { before, what })?;
         Ok(())
     }
 
     /// Whether a thread sees or leaves a page in a step from this one on.
     pub(crate) fn has_access_from(&self, first: u32) -> bool {
         for step in self.steps.get(first as usize..).unwrap_or(&[]) {
-            if matches!(step.what, What::Sees(_) | What::Leaves(_)) {
+            if matches!(step.what, RunStep::Sees(_) | RunStep::Leaves(_)) {
                 return true;
             }
         }
@@ -178,7 +179,7 @@ impl Run {
     }
 
     /// The steps that were put in later, in their order.
-    pub(crate) fn sorted_late(&self, alloc: Global) -> Result<Vec<Late>, NoMemory> {
+    pub(crate) fn sorted_late(&self, alloc: Global) -> Result<Vec<InsertedStep>, NoMemory> {
         let mut late = Vec::new(alloc);
         late.extend_from_slice(&self.late)?;
         late.sort_by_key(|step| step.before)?;

@@ -7,18 +7,18 @@ pub(crate) mod spans;
 
 use crate::accesses::Shown;
 use crate::cases::one_page;
-use crate::history::{Doing, History};
+use crate::history::{Action, History};
 use crate::kernel::Kernel;
-use crate::needs::Wanted;
-use crate::run::{Run, What};
+use crate::needs::CallFilter;
+use crate::run::{Run, RunStep};
 use crate::search::index::Index;
-use crate::search::spans::At;
+use crate::search::spans::ObjectPage;
 use crate::tasks::{Frame, Task, others};
 use call_log::log::Log;
 use call_log::log_call::{Kind, LogCall, has_put};
+use foundation::NoMemory;
 use indexmap::IndexMap;
 use kernel_rules::{Move, Presence};
-use mig_base::NoMemory;
 use std::alloc::Global;
 use uffd_log::{Answer, Errno};
 
@@ -165,7 +165,7 @@ impl Search {
         }
         let key = u64::from(place);
         if !self.kernel.rules.is_told_all(key) {
-            self.carry_out(others(Wanted::Events))?;
+            self.carry_out(others(CallFilter::Events))?;
         }
         if !self.kernel.rules.is_told_all(key) {
             self.refuse(place, "an event of the call is unread")?;
@@ -178,7 +178,7 @@ impl Search {
     /// A call has returned. Where it is a map call that has told objects, it is the last moment for those which these refused with EAGAIN because of it.
     fn end_telling(&mut self, place: u32) -> Result<(), NoMemory> {
         if self.kernel.rules.calls().contains(&u64::from(place)) {
-            self.carry_out(others(Wanted::RefusedDuring(place)))?;
+            self.carry_out(others(CallFilter::RefusedDuring(place)))?;
             self.kernel.rules.returned(u64::from(place));
         }
         Ok(())
@@ -190,7 +190,7 @@ impl Search {
         let made = self.kernel.make(&self.log, step)?;
         if made {
             self.run.add_unseen(step)?;
-            self.note_doing(Doing::Step(step), seen)?;
+            self.note_action(Action::Step(step), seen)?;
         }
         Ok(made)
     }
@@ -230,7 +230,7 @@ impl Search {
                 }
                 _ => self.take_rest(frame, &call)?,
             }
-            self.note_doing(Doing::Call(place), seen)?;
+            self.note_action(Action::Call(place), seen)?;
         }
         self.finish(place, &call, step)
     }
@@ -261,10 +261,10 @@ impl Search {
     }
 
     /// Judges the answer of a call, which takes effect so.
-    fn judge(&mut self, frame: Frame, call: &LogCall) -> Result<What, NoMemory> {
+    fn judge(&mut self, frame: Frame, call: &LogCall) -> Result<RunStep, NoMemory> {
         if self.is_refused(call) && self.kernel.refuse(&self.log, frame.call, call)? {
             self.note_kind(frame, call);
-            return Ok(What::Refuses(frame.call));
+            return Ok(RunStep::Refuses(frame.call));
         }
         let outside = self.kernel.rules.outside().len();
         if self.kernel.take(&self.log, frame.call, call)? {
@@ -272,7 +272,7 @@ impl Search {
                 self.kernel.notes.outside.push(u64::from(frame.call))?;
             }
             self.note_kind(frame, call);
-            return Ok(What::Effect(frame.call));
+            return Ok(RunStep::Effect(frame.call));
         }
         let reason = if self.gave_up {
             "the search was given up"
@@ -281,7 +281,7 @@ impl Search {
         };
         self.refuse(frame.call, reason)?;
         self.kernel.force(&self.log, frame.call, call)?;
-        Ok(What::Effect(frame.call))
+        Ok(RunStep::Effect(frame.call))
     }
 
     /// Whether a page of a call may have lost its registration while the call lasted: its monitor could not know that.
@@ -293,7 +293,7 @@ impl Search {
             return false;
         };
         for number in range.first..range.end() {
-            let at = At {
+            let at = ObjectPage {
                 object,
                 space,
                 addr: self.log.size.address(number),
@@ -350,13 +350,13 @@ impl Search {
         }
         let step = self.run.len()?;
         if taken == 0 {
-            self.run.add(What::Starts(read))?;
+            self.run.add(RunStep::Starts(read))?;
         }
         for at in taken..until {
             if !self.kernel.take_message(&self.log, read, &call, at)? {
                 return Ok(false);
             }
-            self.run.add(What::Reads(read))?;
+            self.run.add(RunStep::Reads(read))?;
             self.note_part(read, at.saturating_add(1));
         }
         self.note_taken(&call, step)?;

@@ -18,13 +18,13 @@ ghost use Rattle.audit.specs.Verdicts.{
 use crate::audit::{Asked, Form};
 use crate::certificate::{Certificate, Missing, Totals};
 use crate::findings::Finding;
-use crate::judging::Judged;
+use crate::judging::JudgedLog;
 use crate::rule_names::Rule;
 use crate::waits::{KINDS, Microseconds, waits_of};
 use call_log::log_call::Kind;
 use call_log::split::first_line;
+use foundation::NoMemory;
 use kernel_rules::Difference;
-use mig_base::NoMemory;
 use std::alloc::Global;
 
 /// The differences from the model, in the order of their names.
@@ -48,7 +48,7 @@ const DIFFERENCES: &[(Difference, &str)] = &[
 ];
 
 /// How often a difference from the model was noted.
-fn count_difference(judged: &Judged, wanted: Difference) -> u64 {
+fn count_difference(judged: &JudgedLog, wanted: Difference) -> u64 {
     let mut count = 0u64;
     for difference in &judged.notes.differs {
         if *difference == wanted {
@@ -59,7 +59,7 @@ fn count_difference(judged: &Judged, wanted: Difference) -> u64 {
 }
 
 /// Adds how many faults waited, and which the longest.
-fn add_waits(text: &mut String, alloc: Global, judged: &Judged) -> Result<(), NoMemory> {
+fn add_waits(text: &mut String, alloc: Global, judged: &JudgedLog) -> Result<(), NoMemory> {
     let waits = waits_of(alloc, judged, None)?;
     if let Some(longest) = waits.last() {
         let count = waits.len();
@@ -75,7 +75,7 @@ fn add_waits(text: &mut String, alloc: Global, judged: &Judged) -> Result<(), No
 fn add_kind(
     text: &mut String,
     alloc: Global,
-    judged: &Judged,
+    judged: &JudgedLog,
     flags: u64,
     name: &str,
 ) -> Result<(), NoMemory> {
@@ -95,7 +95,7 @@ fn add_kind(
 fn add_explanation(
     text: &mut String,
     alloc: Global,
-    judged: &Judged,
+    judged: &JudgedLog,
     found: &[Finding],
 ) -> Result<(), NoMemory> {
     let command = str::from_utf8(&judged.log.command).unwrap_or("command");
@@ -138,7 +138,7 @@ pub(crate) struct Front {
 /// The parts of a summary before a certificate is made.
 pub(crate) fn front_of(
     alloc: Global,
-    judged: &Judged,
+    judged: &JudgedLog,
     found: &[Finding],
     asked: Asked,
 ) -> Result<Front, NoMemory> {
@@ -159,7 +159,7 @@ pub(crate) fn front_of(
 }
 
 /// The same as fields of an object, with how long faults waited, and whether lines of the log were lost.
-fn json_counts(alloc: Global, judged: &Judged) -> Result<String, NoMemory> {
+fn json_counts(alloc: Global, judged: &JudgedLog) -> Result<String, NoMemory> {
     let mut text = String::new(alloc);
     let must = judged.log.count_of(Kind::Must);
     let may = judged.log.count_of(Kind::May);
@@ -180,7 +180,7 @@ fn json_counts(alloc: Global, judged: &Judged) -> Result<String, NoMemory> {
 }
 
 /// How many calls there are of each kind.
-fn counts(alloc: Global, judged: &Judged) -> Result<String, NoMemory> {
+fn counts(alloc: Global, judged: &JudgedLog) -> Result<String, NoMemory> {
     let mut text = String::new(alloc);
     let must = judged.log.count_of(Kind::Must);
     let may = judged.log.count_of(Kind::May);
@@ -201,7 +201,7 @@ fn counts(alloc: Global, judged: &Judged) -> Result<String, NoMemory> {
 fn add_details(
     text: &mut String,
     alloc: Global,
-    judged: &Judged,
+    judged: &JudgedLog,
     found: &[Finding],
     explains: bool,
 ) -> Result<(), NoMemory> {

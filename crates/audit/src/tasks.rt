@@ -2,13 +2,14 @@
 
 use crate::accesses::ThreadTask;
 use crate::cases::one_page;
-use crate::needs::{Wanted, is_refused_for_now};
+use crate::needs::{CallFilter, is_refused_for_now};
 use crate::polls::PollTask;
 use crate::search::Search;
+use crate::tellers::moved_to;
 use call_log::log_call::{LogCall, PROTECTS};
 use call_log::pages::Range;
+use foundation::NoMemory;
 use kernel_rules::{Move, Presence};
-use mig_base::NoMemory;
 use uffd_log::{Call, Errno};
 
 /// The most tasks for a call that ends: each open call takes effect once, and needs few for each of its pages and messages.
@@ -29,7 +30,7 @@ pub(crate) enum Task {
     /// It takes effect now.
     Take(Frame),
     /// The open calls that are looked for take effect, from this place of the log on.
-    Others { wanted: Wanted, from: u32 },
+    Others { wanted: CallFilter, from: u32 },
     /// What an install needs, once the reads of its pages' faults took effect.
     Install(u32),
     /// The pages of a range that are present are cleared by a MADV_DONTNEED that is under way, where there is one.
@@ -55,7 +56,7 @@ pub(crate) enum Task {
 }
 
 /// The calls that are looked for take effect.
-pub(crate) fn others(wanted: Wanted) -> Task {
+pub(crate) fn others(wanted: CallFilter) -> Task {
     Task::Others { wanted, from: 0 }
 }
 
@@ -126,7 +127,7 @@ impl Search {
     }
 
     /// The next open call that is looked for takes effect, and then the others.
-    fn settle_others(&mut self, wanted: Wanted, from: u32) -> Result<(), NoMemory> {
+    fn settle_others(&mut self, wanted: CallFilter, from: u32) -> Result<(), NoMemory> {
         let Some(next) = self.next_open(wanted, from) else {
             return Ok(());
         };
@@ -143,7 +144,7 @@ impl Search {
             Call::WriteProtect { mode, .. } => self.prepare_protect(place, call, mode),
             Call::Wake { .. } => self.plan_reads_of(call),
             Call::Unregister { .. } => self.prepare_unregister(call),
-            Call::Close { on } if call.last => self.plan(others(Wanted::OfObject(on.object))),
+            Call::Close { on } if call.last => self.plan(others(CallFilter::OfObject(on.object))),
             Call::Read { .. } => self.prepare_read(place, call),
             Call::Poll { .. } => self.plan(Task::Poll(PollTask::Look(place))),
             _ if call.install_mode().is_some() => {
@@ -160,7 +161,7 @@ impl Search {
         let (Some(object), Some(range)) = (call.object(), self.log.pages_of(call)) else {
             return Ok(());
         };
-        self.plan(others(Wanted::FaultsNow { object, range }))
+        self.plan(others(CallFilter::FaultsNow { object, range }))
     }
 
     /// The same of an install: a fault which says that a page that it puts is write-protected comes after it. One that changes no page needs none.
@@ -175,7 +176,7 @@ impl Search {
         ) else {
             return self.plan_reads_of(call);
         };
-        self.plan(others(Wanted::MissingFaults { object, range }))
+        self.plan(others(CallFilter::MissingFaults { object, range }))
     }
 
     fn prepare_map_call(&mut self, place: u32, call: &LogCall) -> Result<(), NoMemory> {
@@ -189,22 +190,25 @@ impl Search {
         }
         self.plan(Task::Foresee(place))?;
         if !matches!(call.call, Call::Madvise { .. }) {
-            self.plan(others(Wanted::Protecting { space, range }))?;
-            self.plan(others(Wanted::PutIn { space, range }))?;
+            self.plan(others(CallFilter::Protecting { space, range }))?;
+            self.plan(others(CallFilter::PutIn { space, range }))?;
         } else if line > 0 {
-            self.plan(others(Wanted::PutBefore { space, range, line }))?;
+            self.plan(others(CallFilter::PutBefore { space, range, line }))?;
         }
         if let Some(line) = self.told_from(call, range)? {
-            self.plan(others(Wanted::PutUntil { space, line }))?;
+            self.plan(others(CallFilter::PutUntil { space, line }))?;
         }
-        self.plan(others(Wanted::FaultsOfSpace {
+        self.plan(others(CallFilter::FaultsOfSpace {
             space,
             range,
             by: place,
         }))?;
-        // Where it ends before its own event could be read it maps what another call has unmapped.
-        if matches!(call.call, Call::Mmap { .. }) && line == self.line {
-            self.plan(others(Wanted::Unregisters { space, range }))?;
+        // Where it ends before its own event could be read, another call has unmapped or moved what it maps, unmaps or moves.
+        if !matches!(call.call, Call::Madvise { .. }) && line == self.line {
+            self.plan(others(CallFilter::Unregisters { space, range }))?;
+            if let Some(range) = moved_to(self.log.size, call) {
+                self.plan(others(CallFilter::Unregisters { space, range }))?;
+            }
         }
         Ok(())
     }
@@ -219,9 +223,9 @@ impl Search {
             }
             for page in pages.first..pages.end() {
                 if self.kernel.has(space, one_page(page), Presence::Missing) {
-                    self.plan(others(Wanted::Installs { object, page }))?;
+                    self.plan(others(CallFilter::Installs { object, page }))?;
                 } else if !self.is_bare(object, page) {
-                    self.plan(others(Wanted::Bares { object, page }))?;
+                    self.plan(others(CallFilter::Bares { object, page }))?;
                 }
             }
         }
@@ -233,10 +237,10 @@ impl Search {
             .object()
             .and_then(|object| self.kernel.space_of(object));
         if let (Some(space), Some(range), true) = (space, self.log.pages_of(call), call.is_ok()) {
-            self.plan(others(Wanted::PutIn { space, range }))?;
+            self.plan(others(CallFilter::PutIn { space, range }))?;
         }
         match (call.object(), self.log.pages_of(call)) {
-            (Some(object), Some(range)) => self.plan(others(Wanted::Faults { object, range })),
+            (Some(object), Some(range)) => self.plan(others(CallFilter::Faults { object, range })),
             _ => Ok(()),
         }
     }
@@ -255,7 +259,7 @@ impl Search {
             self.plan(Task::Foresee(place))?;
             return self.plan_reads_of(call);
         }
-        self.plan(others(Wanted::Protected {
+        self.plan(others(CallFilter::Protected {
             object,
             range,
             line: call.end,
@@ -295,7 +299,7 @@ impl Search {
     fn make_registered(&mut self, object: u64, range: Range) -> Result<(), NoMemory> {
         match self.kernel.space_of(object) {
             Some(space) if !self.are_registered(space, range) => {
-                self.plan(others(Wanted::Registers { object, range }))
+                self.plan(others(CallFilter::Registers { object, range }))
             }
             _ => Ok(()),
         }
@@ -305,7 +309,7 @@ impl Search {
     fn make_unregistered(&mut self, object: u64, range: Range) -> Result<(), NoMemory> {
         match self.kernel.space_of(object) {
             Some(space) if self.are_registered(space, range) => {
-                self.plan(others(Wanted::Unregisters { space, range }))
+                self.plan(others(CallFilter::Unregisters { space, range }))
             }
             _ => Ok(()),
         }
@@ -347,10 +351,10 @@ impl Search {
     fn make_there(&mut self, object: u64, page: u64) -> Result<(), NoMemory> {
         match self.kernel.space_of(object) {
             Some(space) if self.kernel.has(space, one_page(page), Presence::Missing) => {
-                self.plan(others(Wanted::Installs { object, page }))
+                self.plan(others(CallFilter::Installs { object, page }))
             }
             Some(space) if !self.is_there(space, page) => {
-                self.plan(others(Wanted::Puts { object, page }))
+                self.plan(others(CallFilter::Puts { object, page }))
             }
             _ => Ok(()),
         }
@@ -367,7 +371,7 @@ impl Search {
                 })?;
                 self.plan(Task::Clear { space, page })?;
                 self.plan(Task::TellOf { space, page })?;
-                return self.plan(others(Wanted::Clears { space, page }));
+                return self.plan(others(CallFilter::Clears { space, page }));
             }
         }
         Ok(())
@@ -387,7 +391,7 @@ impl Search {
     fn make_protected(&mut self, object: u64, page: u64) -> Result<(), NoMemory> {
         if self.is_bare(object, page) {
             self.plan(Task::ProtectAlone { object, page })?;
-            self.plan(others(Wanted::Protects { object, page }))?;
+            self.plan(others(CallFilter::Protects { object, page }))?;
         }
         self.make_there(object, page)
     }
@@ -401,7 +405,7 @@ impl Search {
             return Ok(());
         };
         self.plan(Task::ProtectBy { call: by, page })?;
-        self.plan(others(Wanted::Protected {
+        self.plan(others(CallFilter::Protected {
             object,
             range: one_page(page),
             line: self.line,
@@ -430,7 +434,7 @@ impl Search {
     fn tell_of(&mut self, space: u32, number: u64) -> Result<(), NoMemory> {
         for key in &self.kernel.clearers(space, number)? {
             if !self.kernel.rules.is_told_all(u64::from(*key)) {
-                return self.plan(others(Wanted::Events));
+                return self.plan(others(CallFilter::Events));
             }
         }
         Ok(())
@@ -438,7 +442,7 @@ impl Search {
 
     fn read_events(&mut self, object: u64) -> Result<(), NoMemory> {
         if self.kernel.rules.is_changing(object) {
-            self.plan(others(Wanted::Events))
+            self.plan(others(CallFilter::Events))
         } else {
             Ok(())
         }

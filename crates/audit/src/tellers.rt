@@ -1,13 +1,12 @@
 //! Which map call under way an event is of, and which one an object has refused calls for.
 
-use crate::needs::Wanted;
+use crate::needs::CallFilter;
 use crate::polls::NEAR;
 use crate::search::Search;
 use crate::tasks::{Task, others};
-use call_log::log::Log;
 use call_log::log_call::LogCall;
 use call_log::pages::{PageSize, Range};
-use mig_base::NoMemory;
+use foundation::NoMemory;
 use uffd_log::{Call, Message};
 
 /// MAP_FIXED.
@@ -30,13 +29,11 @@ fn may_unmap(call: &LogCall) -> bool {
     }
 }
 
-/// Whether a call is an mremap that has moved pages to this one.
-pub(crate) fn moves_to(log: &Log, call: &LogCall, page: u64) -> bool {
+/// Where an mremap has moved pages.
+pub(crate) fn moved_to(size: PageSize, call: &LogCall) -> Option<Range> {
     match (call.call, call.value()) {
-        (Call::Mremap { new_len, .. }, Some(target)) => {
-            log.size.rounded(target, new_len).contains(page)
-        }
-        _ => false,
+        (Call::Mremap { new_len, .. }, Some(target)) => Some(size.rounded(target, new_len)),
+        _ => None,
     }
 }
 
@@ -47,14 +44,7 @@ pub(crate) fn changes(size: PageSize, call: &LogCall, range: Range) -> bool {
             return true;
         }
     }
-    match (call.call, call.value()) {
-        (Call::Mremap { new_len, .. }, Some(target)) => size
-            .rounded(target, new_len)
-            .common(range)
-            .count
-            > 0,
-        _ => false,
-    }
+    moved_to(size, call).is_some_and(|target| target.common(range).count > 0)
 }
 
 /// The line where a call ends; one that never returned ends after all others.
@@ -81,7 +71,7 @@ impl Search {
         if self.kernel.rules.may_be_changing(object) {
             Ok(())
         } else {
-            self.plan(others(Wanted::Tellers))
+            self.plan(others(CallFilter::Tellers))
         }
     }
 

@@ -1,10 +1,10 @@
 //! The texts of findings, after their severities.
 
 use crate::cases::{Case, Moment};
-use crate::judging::{Judged, PAGE};
+use crate::judging::{JudgedLog, PAGE};
 use crate::waits::KINDS;
 use call_log::pages::{PageSize, Range};
-use mig_base::NoMemory;
+use foundation::NoMemory;
 use std::alloc::Global;
 
 /// How many cases of a finding are said.
@@ -90,7 +90,7 @@ pub(crate) fn page_text(alloc: Global, size: PageSize, case: &Case) -> Result<St
 /// Adds what some cases have in common, of which this is the first.
 fn add_headline(
     text: &mut String,
-    judged: &Judged,
+    judged: &JudgedLog,
     case: &Case,
     count: usize,
 ) -> Result<(), NoMemory> {
@@ -112,7 +112,7 @@ fn add_headline(
 /// The finding of these cases, which begin with this one.
 pub(crate) fn text_of(
     alloc: Global,
-    judged: &Judged,
+    judged: &JudgedLog,
     first: &Case,
     cases: &[Case],
 ) -> Result<String, NoMemory> {

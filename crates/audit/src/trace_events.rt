@@ -4,11 +4,11 @@ ghost use Rattle.std.specs.Prelude.{◌≡◌, ◌++◌, codes, length, OnOk, If
 ghost use Rattle.audit.specs.TraceEvents.{AddsEvents, IsAnyTrace, IsTrace, event_line, microseconds};
 
 use crate::cases::{Case, Moment, call_at, list_cases};
-use crate::judging::{Judged, PAGE};
-use crate::notes::Slept;
+use crate::judging::{JudgedLog, PAGE};
+use crate::notes::FaultWait;
 use crate::texts::{add_place_fields, kind_of};
 use crate::threads::named_thread;
-use mig_base::NoMemory;
+use foundation::NoMemory;
 use std::alloc::Global;
 
 /// The first thread of the format of those that the log does not name: its own end below it.
@@ -17,7 +17,7 @@ const UNNAMED: u64 = 1 << 31;
 /// A wait, with the thread of the format that it is of. Times are nanoseconds.
 #[derive(Clone, Copy)]
 struct Span {
-    slept: Slept,
+    slept: FaultWait,
     object: Option<u64>,
     thread: u64,
     since: Moment,
@@ -25,7 +25,7 @@ struct Span {
 }
 
 /// A wait that a call has ended.
-fn span_of(judged: &Judged, slept: &Slept) -> Option<Span> {
+fn span_of(judged: &JudgedLog, slept: &FaultWait) -> Option<Span> {
     let read = call_at(&judged.log, slept.read)?;
     let by = judged.log.call(slept.by?)?;
     Some(Span {
@@ -52,7 +52,7 @@ fn free_place(lanes: &[u64], since: u64) -> Option<usize> {
 }
 
 /// The waits of a log, in the order in which they begin. Those of threads that it does not name are of as few threads as do not overlap.
-fn spans_of(alloc: Global, judged: &Judged) -> Result<Vec<Span>, NoMemory> {
+fn spans_of(alloc: Global, judged: &JudgedLog) -> Result<Vec<Span>, NoMemory> {
     let mut spans = Vec::new(alloc);
     for slept in &judged.notes.waits {
         if let Some(span) = span_of(judged, slept) {
@@ -112,7 +112,7 @@ fn add_span(text: &mut String, span: &Span) -> Result<(), NoMemory> {
 }
 
 /// Adds the fields of a finding, which is shown where it begins, or at this time, in nanoseconds, if no line says when.
-fn add_mark(text: &mut String, judged: &Judged, case: &Case, last: u64) -> Result<(), NoMemory> {
+fn add_mark(text: &mut String, judged: &JudgedLog, case: &Case, last: u64) -> Result<(), NoMemory> {
     let (name, process) = (case.rule.name(), case.process);
     let thread = case.thread.unwrap_or(0);
     write!(
@@ -159,7 +159,7 @@ fn add_spans(output: &mut Vec<u8>, alloc: Global, spans: &[Span]) -> Result<(), 
 fn add_marks(
     output: &mut Vec<u8>,
     alloc: Global,
-    judged: &Judged,
+    judged: &JudgedLog,
     cases: &[Case],
     last: u64,
 ) -> Result<(), NoMemory>
@@ -175,7 +175,7 @@ fn add_marks(
 }
 
 /// When the last call of a log returned.
-fn last_time(judged: &Judged) -> u64 {
+fn last_time(judged: &JudgedLog) -> u64 {
     let mut last = 0u64;
     for place in &judged.log.ends {
         if let Some(call) = judged.log.call(*place) {
@@ -197,7 +197,7 @@ fn print_end(text: &mut String, last: u64) -> Result<(), NoMemory> {
 /// The array of these waits and findings, and of the end of the log.
 fn trace(
     alloc: Global,
-    judged: &Judged,
+    judged: &JudgedLog,
     spans: &[Span],
     cases: &[Case],
 ) -> Result<Vec<u8>, NoMemory>
@@ -220,7 +220,7 @@ fn trace(
 /// The waits of a log and what was found in it, as events. A page fault is late after these microseconds, if any is to be.
 pub(crate) fn trace_of(
     alloc: Global,
-    judged: &Judged,
+    judged: &JudgedLog,
     late_after: Option<u64>,
 ) -> Result<Vec<u8>, NoMemory>
     ensures { IfOk result (λ text. IsAnyTrace text.items) }

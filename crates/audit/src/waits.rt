@@ -1,8 +1,8 @@
 //! How long threads waited, from the read that returned their fault to the call that woke them.
 
-use crate::judging::Judged;
-use crate::notes::Slept;
-use mig_base::NoMemory;
+use crate::judging::JudgedLog;
+use crate::notes::FaultWait;
+use foundation::NoMemory;
 use std::alloc::Global;
 use std::fmt;
 
@@ -59,7 +59,7 @@ impl fmt::Display for Microseconds {
 /// The waits for faults with these flags, or for all, in their order.
 pub(crate) fn waits_of(
     alloc: Global,
-    judged: &Judged,
+    judged: &JudgedLog,
     flags: Option<u64>,
 ) -> Result<Vec<Wait>, NoMemory> {
     let mut waits = Vec::new(alloc);
@@ -75,7 +75,7 @@ pub(crate) fn waits_of(
 }
 
 /// How long a thread slept that a call has woken.
-pub(crate) fn wait_of(judged: &Judged, slept: &Slept) -> Option<Wait> {
+pub(crate) fn wait_of(judged: &JudgedLog, slept: &FaultWait) -> Option<Wait> {
     let read = judged.log.call(u32::try_from(slept.read).ok()?)?;
     let by = judged.log.call(slept.by?)?;
     Some(Wait {

@@ -1,17 +1,17 @@
 //! What becomes of a thread that sleeps at a page which a call has found there: whether anybody wakes it.
 
 use crate::cases::stopped_at;
-use crate::notes::Stopped;
+use crate::notes::StoppedCall;
 use call_log::log::Log;
 use call_log::log_call::{LogCall, has_put};
 use call_log::pages::Range;
-use mig_base::NoMemory;
+use foundation::NoMemory;
 use std::alloc::Global;
 use uffd_log::{Answer, Call};
 
 /// A call that has stopped at a page which the log had put.
 #[derive(Clone, Copy)]
-pub(crate) struct Twice {
+pub(crate) struct SecondInstall {
     pub(crate) call: u32,
     object: u64,
     page: u64,
@@ -25,7 +25,7 @@ pub(crate) struct Twice {
     is_woken: bool,
 }
 
-impl Twice {
+impl SecondInstall {
     /// Whether a thread sleeps there that nobody wakes.
     pub(crate) fn is_left_asleep(&self) -> bool {
         self.waits && self.is_silent && !self.is_woken
@@ -42,9 +42,9 @@ impl Twice {
     }
 }
 
-fn twice_of(log: &Log, stopped: Stopped) -> Option<Twice> {
+fn twice_of(log: &Log, stopped: StoppedCall) -> Option<SecondInstall> {
     let call = log.call(stopped.call)?;
-    Some(Twice {
+    Some(SecondInstall {
         call: stopped.call,
         object: call.object()?,
         page: stopped_at(log, &call),
@@ -75,7 +75,7 @@ fn pages_changed(log: &Log, call: &LogCall) -> Option<Range> {
 }
 
 /// Notes a call that returned with those of these calls at whose pages it has done anything. They are in the order of objects and pages.
-fn note_call(twice: &mut Vec<Twice>, log: &Log, call: &LogCall) {
+fn note_call(twice: &mut Vec<SecondInstall>, log: &Log, call: &LogCall) {
     let (Some(object), Some(range)) = (call.object(), pages_changed(log, call)) else {
         return;
     };
@@ -92,8 +92,8 @@ fn note_call(twice: &mut Vec<Twice>, log: &Log, call: &LogCall) {
 pub(crate) fn find_wakes(
     alloc: Global,
     log: &Log,
-    stopped: &[Stopped],
-) -> Result<Vec<Twice>, NoMemory> {
+    stopped: &[StoppedCall],
+) -> Result<Vec<SecondInstall>, NoMemory> {
     let mut twice = Vec::new(alloc);
     for one in stopped {
         if let Some(one) = twice_of(log, *one) {

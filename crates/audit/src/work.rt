@@ -7,7 +7,7 @@ use uffd_log::{Call, Errno};
 
 /// Why nothing of a log could be judged.
 #[derive(Clone, Copy)]
-pub(crate) enum Nothing {
+pub(crate) enum Unjudged {
     /// It has no call.
     NoCall,
     /// No call is on a userfault object.
@@ -16,12 +16,12 @@ pub(crate) enum Nothing {
     NoWork,
 }
 
-impl fmt::Display for Nothing {
+impl fmt::Display for Unjudged {
     fn fmt<W: fmt::Write>(&self, f: &mut fmt::Formatter<W>) -> fmt::Result {
         match *self {
-            Nothing::NoCall => write!(f, "the log has no call"),
-            Nothing::NoObject => write!(f, "no userfault object was opened or used"),
-            Nothing::NoWork => write!(f, "no message was read, and no page was put"),
+            Unjudged::NoCall => write!(f, "the log has no call"),
+            Unjudged::NoObject => write!(f, "no userfault object was opened or used"),
+            Unjudged::NoWork => write!(f, "no message was read, and no page was put"),
         }
     }
 }
@@ -38,8 +38,8 @@ fn puts(call: &LogCall) -> bool {
 }
 
 /// Why nothing of a log could be judged, if that is so.
-pub(crate) fn nothing_in(log: &Log) -> Option<Nothing> {
-    let mut nothing = Nothing::NoCall;
+pub(crate) fn nothing_in(log: &Log) -> Option<Unjudged> {
+    let mut nothing = Unjudged::NoCall;
     for place in 0..u32::MAX {
         let Some(call) = log.call(place) else {
             return Some(nothing);
@@ -48,9 +48,9 @@ pub(crate) fn nothing_in(log: &Log) -> Option<Nothing> {
             return None;
         }
         nothing = match nothing {
-            Nothing::NoWork => Nothing::NoWork,
-            _ if has_object(&call) => Nothing::NoWork,
-            _ => Nothing::NoObject,
+            Unjudged::NoWork => Unjudged::NoWork,
+            _ if has_object(&call) => Unjudged::NoWork,
+            _ => Unjudged::NoObject,
         };
     }
     Some(nothing)

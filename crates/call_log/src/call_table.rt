@@ -2,9 +2,9 @@
 
 use crate::log_call::{Kind, LogCall};
 use crate::pages::PageSize;
+use foundation::NoMemory;
 use indexmap::{IndexMap, IndexSet};
 use log_entries::EntryStore;
-use mig_base::NoMemory;
 use std::alloc::Global;
 use uffd_log::{Answer, Call, Stamp};
 

@@ -1,6 +1,6 @@
 //! Faults that end the reading of a log.
 
-use mig_base::NoMemory;
+use foundation::NoMemory;
 use std::alloc::{AllocError, AllocFailed};
 use thiserror::Error;
 

@@ -5,8 +5,8 @@ ghost use Rattle.call_log.specs.Listing.{BeginsWith, head_word};
 ghost use Rattle.call_log.specs.HeadLines.{line_word};
 
 use crate::wrong::{Flaw, HeadFault, Wrong};
+use foundation::NoMemory;
 use memchr::memchr;
-use mig_base::NoMemory;
 use std::fmt;
 use uffd_log::token::{Token, read_tokens};
 

@@ -9,8 +9,8 @@ ghost use Rattle.call_log.specs.Reading.{At, Completes, EndsLine, Finished, IsWh
 use crate::complete::ReadLog;
 use crate::fault::LogFault;
 use crate::log_reader::{LONGEST_LINE, LogReader};
+use foundation::NoMemory;
 use lines::Lines;
-use mig_base::NoMemory;
 use std::alloc::Global;
 use std::io::{Read, Write};
 

@@ -1,8 +1,8 @@
 //! What a log has said of its processes so far: calls that have not returned, times, and descriptors.
 
 use crate::wrong::CallFault;
+use foundation::NoMemory;
 use indexmap::{IndexMap, IndexSet};
-use mig_base::NoMemory;
 use std::alloc::Global;
 use uffd_log::{Call, Descriptor};
 

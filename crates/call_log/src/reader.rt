@@ -10,8 +10,8 @@ use crate::pages::PageSize;
 use crate::process_table::{OpenCall, ProcessTable};
 use crate::reader::answers::{check_answer, check_message, check_range, descriptor_of};
 use crate::wrong::{CallFault, DescriptorFault, Fields, Flaw, Names, NumberFault, Wrong};
+use foundation::NoMemory;
 use kernel_rules::Run;
-use mig_base::NoMemory;
 use std::alloc::{AllocError, Global};
 use uffd_log::{Answer, Call, Descriptor, Line, Message, Stamp};
 

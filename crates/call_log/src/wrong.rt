@@ -35,7 +35,7 @@ pub(crate) enum Flaw {
 /// A fault of a line of the head.
 #[derive(Clone, Copy)]
 pub(crate) enum HeadFault {
-    /// It is not where it has to be.
+    /// It is not where it must be.
     Missing(HeadLine),
     /// It has another number of words.
     Words(HeadLine),

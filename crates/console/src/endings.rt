@@ -105,7 +105,7 @@ pub(crate) fn say_nothing(rt: &HostRuntime, name: &str, what: &str) {
     let _ = eprintln!(rt; "{name}: nothing was looked at: {what}");
 }
 
-/// The exit status of a command that has to look at something: the one that it has otherwise, or if that is 0 that of one that has looked
+/// The exit status of a command that must look at something: the one that it has otherwise, or if that is 0 that of one that has looked
 /// at nothing, of which standard error then says what the input of this name lacks.
 pub fn end_looked(rt: &HostRuntime, name: &str, what: &str, status: u8, has_looked: bool) -> u8
     ensures exact { result ≡ looked_status has_looked status }

@@ -7,7 +7,7 @@ use expected::order_part;
 use grammar::parse::parse;
 use grammar::{Language, Token};
 use lines::Lines;
-use lint::{lint_lines, reason_of};
+use lint::{Listed, lint_lines, reason_of};
 use std::fs::File;
 use std::io::{Read, Stderr, Write};
 use std::{fs, io};
@@ -59,18 +59,19 @@ pub(crate) fn say_wrong_lines(rt: &HostRuntime, given: Given<'_>, language: Lang
         return;
     };
     let mut file = Bounded::new(file, LONGEST_LISTED);
+    let listed = Listed { name, language };
     if gives_reasons(rt, given) {
         let stderr = rt.stderr();
         let paint = paint_for(rt, &stderr);
         let mut painted = Painted::new(stderr, paint);
-        let _ = lint_lines(rt.alloc(), &mut file, &mut painted, name, language);
+        let _ = lint_lines(rt.alloc(), &mut file, &mut painted, listed);
         return;
     }
     let mut one = OneLine {
         stderr: rt.stderr(),
         has_ended: false,
     };
-    let _ = lint_lines(rt.alloc(), &mut file, &mut one, name, language);
+    let _ = lint_lines(rt.alloc(), &mut file, &mut one, listed);
 }
 
 /// Writes what is wrong with a line of a test. The tokens are replaced.

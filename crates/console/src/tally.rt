@@ -8,7 +8,7 @@ use crate::findings::Findings;
 use crate::paint::{Paint, Painted, paint_for};
 use crate::scripts::Scripts;
 use crate::status::status_of;
-use engine::RunFault;
+use engine::{NamedScript, RunFault};
 use expected::{Outcome, Tested, list_differences, test_script};
 use std::alloc::Global;
 use std::io;
@@ -133,10 +133,11 @@ impl Tally {
             before: scripts.before(),
             is_comment: self.asks.is_tap,
         };
+        let test = NamedScript { name: "", cpus };
         let tested = if self.asks.names_all {
-            list_differences(alloc, scripts, &mut findings, "", cpus)
+            list_differences(alloc, scripts, &mut findings, test)
         } else {
-            test_script(alloc, scripts, &mut findings, "", cpus)
+            test_script(alloc, scripts, &mut findings, test)
         };
         match tested {
             Ok(tested) => Ok(tested),

@@ -30,17 +30,17 @@ pub enum State {
     Made,
     /// At the destination: the page is owed.
     Owed,
-    /// At the destination: a copy has come and is not installed.
+    /// At the destination: a copy has arrived and is not installed.
     Came,
     /// At the destination: a processor sleeps on the page.
     SleptOn,
     /// A processor is in a map call.
     InCall,
-    /// It was woken, and has to try again.
+    /// It was woken, and must try again.
     Woken,
     /// The fault waits for its handler.
     Handler,
-    /// The copy has come, and is not installed.
+    /// The copy has arrived, and is not installed.
     Install,
     /// The page is on a wire.
     OnWire,

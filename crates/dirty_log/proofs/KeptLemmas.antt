@@ -9,8 +9,8 @@ use Rattle.mig_base.specs.declared.command.Access.{Access}
 use Rattle.mig_base.specs.declared.command.Access.TheVariants.{Answered, Missing, Protected}
 use Rattle.mig_base.specs.declared.command.Command.{Command}
 use Rattle.mig_base.specs.Flat.{reply_of}
-use Rattle.mig_base.specs.Ranges.{in_range}
-use Rattle.mig_base.proofs.RangeLemmas.{ranges}
+use Rattle.foundation.specs.Ranges.{in_range}
+use Rattle.foundation.proofs.RangeLemmas.{ranges}
 use Rattle.mig_base.proofs.SetLemmas.{member_below, member_removed, member_with_range}
 use Rattle.mig_model.specs.Host.{memory}
 use Rattle.mig_base.specs.Userfault.{Noted, Object, first_noted, next_of, next_message, read_by, rest_noted, waits_fault}

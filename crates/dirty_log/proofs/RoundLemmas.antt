@@ -4,9 +4,9 @@ use Rattle.std.specs.Ordering.{nat_cmp}
 use Rattle.std.specs.FinSet.{FinSet, contains}
 use Rattle.std.proofs.lemmas.Bool.{cases_lt}
 use Rattle.mig_base.specs.declared.TheConstants.{HIGH_PAGE}
-use Rattle.mig_base.specs.Ranges.{in_range}
+use Rattle.foundation.specs.Ranges.{in_range}
 use Rattle.mig_base.specs.Sets.{without}
-use Rattle.mig_base.proofs.RangeLemmas.{ranges}
+use Rattle.foundation.proofs.RangeLemmas.{ranges}
 use Rattle.mig_base.proofs.SetLemmas.{member_without}
 use Rattle.mig_model.specs.Guest.{is_changed_by}
 use Rattle.mig_base.specs.declared.message.Message.{Message}

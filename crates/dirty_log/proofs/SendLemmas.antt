@@ -9,11 +9,11 @@ use Rattle.std.proofs.lemmas.List.{take_more_set}
 use Rattle.mig_base.specs.declared.TheConstants.{HIGH_PAGE, LOW_PAGE}
 use Rattle.mig_base.specs.declared.refusal.Refusal.{Refusal}
 use Rattle.mig_base.specs.Bytes.{contents, zero_page}
-use Rattle.mig_base.specs.Ranges.{in_range}
+use Rattle.foundation.specs.Ranges.{in_range}
 use Rattle.mig_base.specs.Sets.{with_range}
-use Rattle.mig_base.specs.Tests.{first_holding, is_every}
+use Rattle.foundation.specs.Tests.{first_holding, is_every}
 use Rattle.mig_base.proofs.ChunkSets.{without_one}
-use Rattle.mig_base.proofs.RangeLemmas.{in_range-true}
+use Rattle.foundation.proofs.RangeLemmas.{in_range-true}
 use Rattle.mig_base.proofs.SetLemmas.{member_below}
 use Rattle.mig_model.specs.Space.{Space, IsSoundSpace}
 use Rattle.mig_base.specs.Userfault.{changing}

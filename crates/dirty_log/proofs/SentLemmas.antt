@@ -3,7 +3,7 @@ use Rattle.std.proofs.Common.{◌≡◌, ℕ, true, None, sym, ◌∙◌, ⊎_el
 use Rattle.std.specs.Ordering.{nat_cmp}
 use Rattle.std.specs.FinSet.{FinSet, contains}
 use Rattle.std.proofs.lemmas.Bool.{or_cases}
-use Rattle.mig_base.specs.Ranges.{in_range}
+use Rattle.foundation.specs.Ranges.{in_range}
 use Rattle.mig_base.specs.Sets.{with_range}
 use Rattle.mig_base.proofs.SetLemmas.{member_with_range}
 use Rattle.mig_model.specs.Bounds.{ArePages}

@@ -9,11 +9,11 @@ use Rattle.mig_base.specs.declared.command.Errno.{Errno}
 use Rattle.mig_base.specs.declared.command.Errno.TheVariants.{Eagain, Einval, Enoent}
 use Rattle.mig_base.specs.declared.wake.Wake.{Wake}
 use Rattle.mig_base.specs.declared.wake.Wake.TheVariants.{Nobody, Range}
-use Rattle.mig_base.specs.Bits.{is_one}
-use Rattle.mig_base.specs.Ranges.{in_range}
+use Rattle.foundation.specs.Bits.{is_one}
+use Rattle.foundation.specs.Ranges.{in_range}
 use Rattle.mig_base.specs.Sets.{pages_where}
-use Rattle.mig_base.specs.Tests.{first_holding, is_every}
-use Rattle.mig_base.proofs.RangeLemmas.{none_below-from, none_below_tells, ranges}
+use Rattle.foundation.specs.Tests.{first_holding, is_every}
+use Rattle.foundation.proofs.RangeLemmas.{none_below-from, none_below_tells, ranges}
 use Rattle.mig_model.specs.Space.{Space, IsSoundSpace}
 use Rattle.mig_base.specs.Userfault.{changing, has_modes, registered_where}
 use Rattle.mig_model.specs.Guest.{is_present}

@@ -2,7 +2,7 @@
 use Rattle.std.specs.Prelude.{◌≡◌, ℕ, ◌⊎◌, nat_lt, not, Option, Some, None, Result, Ok, Err, ◌∷◌, []}
 use Rattle.mig_base.specs.declared.effect.Effect.{Effect}
 use Rattle.mig_base.specs.declared.refusal.Refusal.{Refusal}
-use Rattle.mig_base.specs.Tests.{first_holding, is_empty, is_every}
+use Rattle.foundation.specs.Tests.{first_holding, is_empty, is_every}
 use Rattle.mig_base.specs.Userfault.{Noted, changing}
 use Rattle.mig_model.specs.Space.{Space}
 use Rattle.mig_model.specs.Guest.{Guest}

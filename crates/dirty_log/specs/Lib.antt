@@ -4,3 +4,4 @@ pub mod Rounds
 pub mod Sending
 pub mod Lending
 pub mod Answers
+pub mod Laws

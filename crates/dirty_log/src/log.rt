@@ -105,7 +105,7 @@ impl DirtyLog {
         self.held.len()
     }
 
-    /// The pages that were sent in this epoch and are not clean now, as a new set: the destination has to discard its copies of them. Each
+    /// The pages that were sent in this epoch and are not clean now, as a new set: the destination must discard its copies of them. Each
     /// lies where a page may be mapped. `NoMemory` if the set cannot be allocated.
     pub fn discarded(&self) -> Result<PageSet, NoMemory>
         ensures discarded { IfOk result (λ pages.

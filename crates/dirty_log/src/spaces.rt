@@ -1,15 +1,14 @@
 //! The calls that a log makes on the space that it is lent.
 
-ghost use Rattle.std.specs.Prelude.{◌≡◌, ◌+◌, ◌<◌, ◌≤◌, ◌⊎◌, ◌&&◌, true, false, OnOk, OnErr};
+ghost use Rattle.std.specs.Prelude.{◌≡◌, ◌+◌, ◌<◌, ◌≤◌, ◌⊎◌, true, false, OnOk, OnErr};
 ghost use Rattle.std.specs.FinSet.{contains};
-ghost use Rattle.mig_base.specs.Tests.{is_every};
+ghost use Rattle.foundation.specs.Tests.{is_every};
 ghost use Rattle.mig_base.specs.declared.TheConstants.{HIGH_PAGE};
 ghost use Rattle.mig_base.specs.Userfault as object;
-ghost use Rattle.mig_model.specs.Guest.{is_forgotten, is_present};
 ghost use Rattle.mig_model.specs.Ioctls.{protected_in};
-ghost use Rattle.mig_model.specs.Source.{all_registered, source_act_by};
+ghost use Rattle.mig_model.specs.Source.{all_registered};
 ghost use Rattle.uffd_ioctl.specs.Lent.{IsLent};
-ghost use Rattle.dirty_log.specs.Spaces.{is_sendable as sendable};
+ghost use Rattle.dirty_log.specs.Spaces.{act_in, is_sendable as sendable};
 
 use mig_base::act::Act;
 use mig_base::flags::{REGISTER_MISSING_BIT, REGISTER_WP_BIT, WRITEPROTECT_WP_BIT};
@@ -87,9 +86,7 @@ pub fn unprotect(space: &mut Space, page: PageNo)
 /// How a fault has to be resolved, according to the present state of its page.
 pub fn act_of(space: &Space, fault: &PageFault) -> Act
     ensures low { (result ≡ Act.Forgot) ⊎ (fault.now.page < HIGH_PAGE) }
-    ensures act { result ≡
-        source_act_by (is_forgotten space.now fault.now.page) (is_present space.now fault.now.page)
-        (contains space.now.protected fault.now.page && fault.now.wp) }
+    ensures act { result ≡ act_in space.now fault.now }
 {
     space.is_in_order();
     if fault.page() >= u64::from(HIGH_PAGE) {

@@ -66,7 +66,7 @@ fn lane(alloc: Global) -> Lane {
     }
 }
 
-/// What has to be known from before a step.
+/// What must be known from before a step.
 #[derive(Clone, Copy)]
 struct Before {
     step: Step,
@@ -121,7 +121,7 @@ impl Drop for Recorder {
 }
 
 impl Recorder {
-    /// A recorder of a new world. `NoMemory` comes if it cannot be made.
+    /// A recorder of a new world. `NoMemory` is returned if it cannot be made.
     pub(crate) fn new(alloc: Global, cpus: u8) -> Result<Recorder, NoMemory> {
         let Ok(world) = World::new(alloc, cpus) else {
             return Err(NoMemory);

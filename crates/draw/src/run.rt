@@ -6,9 +6,9 @@ ghost use Rattle.diagram.specs.Trees.{IsPicture};
 
 use crate::recorder::Recorder;
 use diagram::paint;
-use engine::RunFault;
 use engine::line_runner::write_out;
 use engine::whole_input::{read_whole, short_text};
+use engine::{NamedScript, RunFault};
 use grammar::parse::parse;
 use grammar::{Language, Line, Token};
 use lines::Lines;
@@ -43,30 +43,28 @@ fn do_lines(alloc: Global, recorder: &mut Recorder, input: &[u8]) -> Result<(), 
 }
 
 /// The picture of a script.
-fn picture_in(alloc: Global, input: &[u8], name: &str, cpus: u8) -> Result<Vec<u8>, RunFault>
+fn picture_in(alloc: Global, input: &[u8], script: NamedScript<'_>) -> Result<Vec<u8>, RunFault>
     ensures { IfOk result (λ picture. IsPicture picture.items) }
 {
-    let mut recorder = Recorder::new(alloc, cpus)?;
+    let mut recorder = Recorder::new(alloc, script.cpus)?;
     do_lines(alloc, &mut recorder, input)?;
-    Ok(paint(alloc, &recorder.record, name)?)
+    Ok(paint(alloc, &recorder.record, script.name)?)
 }
 
 /// The picture of the script that a reader has.
 fn picture_of<R: Read>(
     alloc: Global,
     reader: &mut R,
-    name: &str,
-    cpus: u8,
+    script: NamedScript<'_>,
 ) -> Result<Vec<u8>, RunFault>
     ensures { IfOk result (λ picture. IsPicture picture.items) }
 {
     let mut input = Vec::new(alloc);
     read_whole(reader, &mut input)?;
-    picture_in(alloc, &input, name, cpus)
+    picture_in(alloc, &input, script)
 }
 
-/// Reads a script, makes its steps on a new world of `cpus` processors, 1 to 16, and writes the picture of what they did, named `name`.
-/// Reports of progress are not drawn.
+/// Reads a script, makes its steps on a new world, and writes the picture of what they did, by its name. Reports of progress are not drawn.
 ///
 /// The whole input is read before the first step, and the whole picture is made before it is written: at any fault but a write fault
 /// nothing is written. A line is wrong where [`engine::run_script`] finds it wrong.
@@ -74,13 +72,12 @@ pub fn run_draw<R: Read, W: Write>(
     alloc: Global,
     reader: &mut R,
     writer: &mut W,
-    name: &str,
-    cpus: u8,
+    script: NamedScript<'_>,
 ) -> Result<(), RunFault>
-    requires low { 1 ≤ cpus }
-    requires high { cpus ≤ 16 }
+    requires low { 1 ≤ script.cpus }
+    requires high { script.cpus ≤ 16 }
     ensures { OnOk result (Draws (W.contents writer.old) (W.contents writer.new)) }
 {
-    let picture = picture_of(alloc, reader, name, cpus)?;
+    let picture = picture_of(alloc, reader, script)?;
     write_out(writer, &picture)
 }

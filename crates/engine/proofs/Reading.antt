@@ -11,7 +11,7 @@ use Rattle.engine.specs.declared.fault.RunFault.TheVariants as faults
 use Rattle.engine.specs.declared.line_reader.LineReader.{LineReader}
 use Rattle.engine.specs.Engine.{Front}
 use Rattle.engine.specs.Lines.{RawLine, held_line, raw_line, LineFault, TakesAll, TakesLast, joined, Taken, Begins, Refused, HasRead, Finishes, Breaks, Stops}
-use Rattle.engine.specs.Reading.{IsHeld, open_line, Adds, Ended, At, Leads, BreaksIn, StopsIn}
+use Rattle.engine.specs.Reading.{IsHeld, open_line, Adds, Ended, At, Leads, BreaksIn, StopsIn, EndsIn, BreaksAtEnd, StopsAtEnd}
 use Rattle.engine.proofs.Pieces.{parts_then}
 use Rattle.engine.proofs.Whole.{input_is}
 
@@ -234,9 +234,9 @@ module _ {S : Type 0} (takes : S → ℕ → RawLine → S → List ℕ → Type
 
     -- the last line is refused, or memory ran out
     pub breaks_last : {T : Type 0} (result : Result T RunFault) (a : S) (p q : LineReader) → IfErr result (λ fault. LineFault (refuses a (p.number + 1) (open_line p false)) (p.number + 1) fault) → OnErr result (q.output.items ≡ p.output.items)
-        → IfErr result (λ fault. (start : S) (read : List ℕ) (before w : Option (List ℕ)) → At takes start read before a p w → Breaks takes refuses start read (Some []) q.output.items fault before w)
+        → IfErr result (λ fault. (w : Option (List ℕ)) → BreaksAtEnd takes refuses a p q.output.items fault w)
     breaks_last (Ok x) a p q h same = tt
-    breaks_last (Err fault) a p q h same = λ start read before w at.
+    breaks_last (Err fault) a p q h same = λ w start read before at.
         breaks_at start read [] [] read q.output.items before w a p fault at (sym (append-nil read)) same
         (refused start a read (at.held ++ []) before w p false fault at (inl (append-nil at.held)) h)
 
@@ -267,14 +267,13 @@ module _ {S : Type 0} (takes : S → ℕ → RawLine → S → List ℕ → Type
         stops_front start ((read ++ bytes) ++ more) [] q.output.items (Some more) before v w breaks.0 breaks.1 front
 
     pub last_unwritten : {T : Type 0} (ended : Result T RunFault) (a b : S) (p : LineReader) (output : List ℕ) (v w : Option (List ℕ))
-        → OnOk ended ((start : S) (read : List ℕ) (before u : Option (List ℕ)) → At takes start read before a p u → Finishes takes start read b output before u)
-        → IfErr ended (λ fault. (start : S) (read : List ℕ) (before u : Option (List ℕ)) → At takes start read before a p u → Breaks takes refuses start read (Some []) output fault before u)
-        → Front output v w → (start : S) (read : List ℕ) (before : Option (List ℕ)) → At takes start read before a p v → Stops takes refuses start read (Some []) faults.WriteFault before w
+        → OnOk ended ((u : Option (List ℕ)) → EndsIn takes a p u b output u) → IfErr ended (λ fault. (u : Option (List ℕ)) → BreaksAtEnd takes refuses a p output fault u)
+        → Front output v w → StopsAtEnd takes refuses a p v faults.WriteFault w
     last_unwritten (Ok x) a b p output v w ok err front = λ start read before at.
-        let f = ok start read before v at in
+        let f = ok v start read before at in
         stops_front start read f.0 output (Some []) before v w f.1 ([], f.2) front
     last_unwritten (Err fault) a b p output v w ok err front = λ start read before at.
-        let breaks = err start read before v at in
+        let breaks = err v start read before at in
         stops_front start read [] output (Some []) before v w breaks.0 breaks.1 front
 
     -- The whole input

@@ -17,7 +17,7 @@ use Rattle.engine.specs.declared.fault.RunFault.{RunFault}
 use Rattle.engine.specs.declared.fault.RunFault.TheVariants as faults
 use Rattle.grammar.specs.Spelling.{Spells}
 use Rattle.grammar.specs.Lines.{EndedLine, Reads, BeginsWrong}
-use Rattle.engine.specs.Script.{Obeys}
+use Rattle.engine.specs.Script.{Obeys, StopsBy}
 use Rattle.mig_model.specs.Migration.{World}
 use Rattle.world.specs.Codes.{coded_world}
 
@@ -272,3 +272,7 @@ pub record ReadsAll (start : Work) (input : List ℕ) (end : Work) (unread befor
   pub left : IfSome unread (λ bytes. bytes ≡ [])
   pub works : Works start lines end text
   pub appends : Appends before after text
+
+-- reading the lines that begin with this work ended with a fault
+abbrev pub WorkStops : Work → List ℕ → Option (List ℕ) → RunFault → Option (List ℕ) → Option (List ℕ) → Type 0
+WorkStops start input unread fault before after = StopsBy (language_of start) (Outputs start) input unread fault before after

@@ -1,5 +1,5 @@
 -- Lines that are read one after the other, and handed to a sink.
-use Rattle.std.specs.Prelude.{◌≡◌, ℕ, ◌+◌, ◌<◌, ◌≤◌, ◌⊎◌, Bool, true, false, List, [], ◌∷◌, ◌++◌, length, take, Option, IfSome, ⊤}
+use Rattle.std.specs.Prelude.{◌≡◌, ℕ, ◌+◌, ◌<◌, ◌≤◌, ◌⊎◌, Bool, true, false, List, [], ◌∷◌, ◌++◌, length, take, Option, Result, IfErr, IfSome, ⊤}
 use Rattle.std.specs.Io.KnownBytes.{Appends}
 use Rattle.grammar.specs.declared.line.Language.{Language}
 use Rattle.grammar.specs.declared.line.Line.{Line}
@@ -85,6 +85,11 @@ pub record Refused {S : Type 0} (refuses : S → ℕ → RawLine → Type 0) (st
   pub one : HasNoFeed raw
   pub begins : Begins bytes raw ended
   pub wrong : refuses state n (raw_line raw ended)
+
+-- a call that reads an input and writes ended with a fault as `Holds` says of the input, what is left of it, the fault, and what was
+-- written before and after. Nothing is said of a reader whose input is not known
+abbrev pub FaultsAs : {T F : Type 0} → Result T F → (List ℕ → Option (List ℕ) → F → Option (List ℕ) → Option (List ℕ) → Type 0) → (input unread before after : Option (List ℕ)) → Type 0
+FaultsAs result Holds input unread before after = IfErr result (λ fault. IfSome input (λ bytes. Holds bytes unread fault before after))
 
 -- what is left of the input ends with the bytes that were not read
 abbrev pub HasRead : Option (List ℕ) → List ℕ → Type 0

@@ -4,7 +4,7 @@ use Rattle.std.specs.Io.KnownBytes.{Appends}
 use Rattle.grammar.specs.Lines.{HasNoFeed}
 use Rattle.engine.specs.declared.fault.RunFault.{RunFault}
 use Rattle.engine.specs.declared.line_reader.LineReader.{LineReader}
-use Rattle.engine.specs.Lines.{RawLine, held_line, TakesAll, joined, Breaks, Stops}
+use Rattle.engine.specs.Lines.{RawLine, held_line, TakesAll, joined, Finishes, Breaks, Stops}
 
 -- these are the bytes of the open line
 abbrev pub IsHeld : LineReader → List ℕ → Type 0
@@ -58,3 +58,20 @@ abbrev pub StopsIn : {S : Type 0} → (S → ℕ → RawLine → S → List ℕ 
 StopsIn {S} takes refuses a old u bytes fault v =
     (start : S) (read : List ℕ) (before : Option (List ℕ)) (more : List ℕ) → At takes start read before a old u
     → Stops takes refuses start ((read ++ bytes) ++ more) (Some more) fault before v
+
+-- At the end of the input
+
+-- whatever led to this state of the sink and of the reader, the whole input was taken; of the output `more` is not written yet
+abbrev pub EndsIn : {S : Type 0} → (S → ℕ → RawLine → S → List ℕ → Type 0) → S → LineReader → Option (List ℕ) → S → List ℕ → Option (List ℕ) → Type 0
+EndsIn {S} takes a old u b more v =
+    (start : S) (read : List ℕ) (before : Option (List ℕ)) → At takes start read before a old u → Finishes takes start read b more before v
+
+-- reading ended with this fault; `output` is not written yet
+abbrev pub BreaksAtEnd : {S : Type 0} → (S → ℕ → RawLine → S → List ℕ → Type 0) → (S → ℕ → RawLine → Type 0) → S → LineReader → List ℕ → RunFault → Option (List ℕ) → Type 0
+BreaksAtEnd {S} takes refuses a old output fault w =
+    (start : S) (read : List ℕ) (before : Option (List ℕ)) → At takes start read before a old w → Breaks takes refuses start read (Some []) output fault before w
+
+-- the same, and the output was written
+abbrev pub StopsAtEnd : {S : Type 0} → (S → ℕ → RawLine → S → List ℕ → Type 0) → (S → ℕ → RawLine → Type 0) → S → LineReader → Option (List ℕ) → RunFault → Option (List ℕ) → Type 0
+StopsAtEnd {S} takes refuses a old u fault v =
+    (start : S) (read : List ℕ) (before : Option (List ℕ)) → At takes start read before a old u → Stops takes refuses start read (Some []) fault before v

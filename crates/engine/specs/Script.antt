@@ -10,17 +10,22 @@ use Rattle.grammar.specs.declared.line.Line.TheVariants.{Skipped, Do, Enter}
 use Rattle.engine.specs.declared.line_runner.Mode.{Mode}
 use Rattle.engine.specs.declared.line_runner.Mode.TheVariants.{Lines, Transcript}
 use Rattle.engine.specs.declared.fault.RunFault.{RunFault}
+use Rattle.engine.specs.declared.setup.Setup.{Setup}
 use Rattle.engine.specs.declared.fault.RunFault.TheVariants as faults
 use Rattle.grammar.specs.Lines.{HasNoFeed, Reads, BeginsWrong}
 use Rattle.grammar.specs.declared.order.Order.{Order}
 use Rattle.grammar.specs.Orders.{step_of}
 use Rattle.grammar.specs.Printed.{Outcome, outcome_line, progress_line}
 use Rattle.mig_base.specs.declared.schedule.Step.{Step}
-use Rattle.mig_model.specs.Migration.{World}
+use Rattle.mig_model.specs.Migration.{World, first_world}
 use Rattle.world.specs.Headline.{Headline}
 use Rattle.engine.specs.Worlds.{Answered, epoch_in, progress_in}
 
 -- Runs of a script
+
+-- the world on which a script is run so
+abbrev pub new_world : Setup → World
+new_world setup = first_world setup.cpus
 
 -- the lines of a list of entries
 abbrev pub entry_lines : List Entry → List ℕ

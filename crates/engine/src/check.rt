@@ -3,7 +3,7 @@
 ghost use Rattle.std.specs.Prelude.{◌≡◌, [], IfOk, IfErr, IfSome, string_bytes};
 ghost use Rattle.engine.specs.declared.fault.RunFault.TheVariants.{NoMemory};
 ghost use Rattle.engine.specs.Checking.{IsVerdict, Checks, CheckStops};
-ghost use Rattle.engine.specs.Engine.{start_of, nothing_kept};
+ghost use Rattle.engine.specs.Lines.{FaultsAs};
 
 use crate::fault::RunFault;
 use crate::line_runner::{LineRunner, write_out};
@@ -28,33 +28,13 @@ pub fn check_script<R: Read, W: Write>(
 ) -> Result<bool, RunFault>
     ensures ok { IfOk result (λ answer. IfSome (R.remaining reader.old) (λ input.
         Checks input answer (W.contents writer.old) (W.contents writer.new))) }
-    ensures fault { IfErr result (λ fault. IfSome (R.remaining reader.old) (λ input.
-        CheckStops input (R.remaining reader.new) fault (W.contents writer.old)
-        (W.contents writer.new))) }
+    ensures fault { FaultsAs result CheckStops (R.remaining reader.old) (R.remaining reader.new)
+        (W.contents writer.old) (W.contents writer.new) }
 {
     let mut script = ScriptReader::new(alloc, LineRunner::keeping(alloc));
+    read_lines(reader, writer, &mut script)?;
     let mut verdict = String::new(alloc);
-    answer_of(alloc, reader, writer, &mut script, &mut verdict)
-}
-
-/// Reads the entries of a whole transcript, and writes the verdict on them, whose text stays in `verdict`.
-fn answer_of<R: Read, W: Write>(
-    alloc: Global,
-    reader: &mut R,
-    writer: &mut W,
-    script: &mut ScriptReader,
-    verdict: &mut String,
-) -> Result<bool, RunFault>
-    requires start { script.old ≡ start_of nothing_kept }
-    requires empty { string_bytes verdict.old ≡ [] }
-    ensures ok { IfOk result (λ answer. IfSome (R.remaining reader.old) (λ input.
-        Checks input answer (W.contents writer.old) (W.contents writer.new))) }
-    ensures fault { IfErr result (λ fault. IfSome (R.remaining reader.old) (λ input.
-        CheckStops input (R.remaining reader.new) fault (W.contents writer.old)
-        (W.contents writer.new))) }
-{
-    read_lines(reader, writer, script)?;
-    let answer = judge(alloc, script.entries(), verdict)?;
+    let answer = judge(alloc, script.entries(), &mut verdict)?;
     write_out(writer, verdict.as_bytes())?;
     Ok(answer)
 }

@@ -1,9 +1,9 @@
 //! Reading an input line by line: each line is handed to a sink, and the output of the sink is written.
 
-ghost use Rattle.std.specs.Prelude.{◌≡◌, ◌+◌, ◌<◌, ◌≤◌, ◌^◌, ◌++◌, ◌∷◌, ℕ, List, [], length, Option, Some, true, OnOk, OnErr, IfErr, IfSome};
+ghost use Rattle.std.specs.Prelude.{◌≡◌, ◌+◌, ◌<◌, ◌≤◌, ◌^◌, ◌++◌, ◌∷◌, ℕ, List, [], length, Option, true, OnOk, OnErr, IfErr, IfSome};
 ghost use Rattle.grammar.specs.Lines.{HasNoFeed};
-ghost use Rattle.engine.specs.Lines.{RawLine, held_line, LineFault, Finishes, Breaks, Stops};
-ghost use Rattle.engine.specs.Reading.{open_line, Adds, Ended, At, Leads, BreaksIn, StopsIn};
+ghost use Rattle.engine.specs.Lines.{RawLine, held_line, LineFault, FaultsAs, Finishes, Stops};
+ghost use Rattle.engine.specs.Reading.{open_line, Adds, Ended, Leads, BreaksIn, StopsIn, EndsIn, BreaksAtEnd, StopsAtEnd};
 
 use crate::fault::RunFault;
 use crate::line_runner::write_out;
@@ -167,13 +167,10 @@ impl LineReader {
     /// Hands over the last line, if it lacks its line feed, and gathers its output.
     fn end_last<S: LineSink>(&mut self, sink: &mut S) -> Result<(), RunFault>
         requires { self.old.number + 1 < 2 ^ 64 }
-        ensures ok { OnOk result ((start : S) (read : List ℕ) (before w : Option (List ℕ)) →
-            At S.takes start read before sink.old self.old w →
-            Finishes S.takes start read sink.new self.new.output.items before w) }
-        ensures fault { IfErr result (λ fault.
-            (start : S) (read : List ℕ) (before w : Option (List ℕ)) →
-            At S.takes start read before sink.old self.old w →
-            Breaks S.takes S.refuses start read (Some []) self.new.output.items fault before w) }
+        ensures ok { OnOk result ((w : Option (List ℕ)) →
+            EndsIn S.takes sink.old self.old w sink.new self.new.output.items w) }
+        ensures fault { IfErr result (λ fault. (w : Option (List ℕ)) →
+            BreaksAtEnd S.takes S.refuses sink.old self.old self.new.output.items fault w) }
     {
         if self.len == 0 {
             return Ok(());
@@ -210,13 +207,10 @@ impl LineReader {
         writer: &mut W,
     ) -> Result<(), RunFault>
         requires { self.old.number + 1 < 2 ^ 64 }
-        ensures ok { OnOk result ((start : S) (read : List ℕ) (before : Option (List ℕ)) →
-            At S.takes start read before sink.old self.old (W.contents writer.old) →
-            Finishes S.takes start read sink.new [] before (W.contents writer.new)) }
-        ensures fault { IfErr result (λ fault.
-            (start : S) (read : List ℕ) (before : Option (List ℕ)) →
-            At S.takes start read before sink.old self.old (W.contents writer.old) →
-            Stops S.takes S.refuses start read (Some []) fault before (W.contents writer.new)) }
+        ensures ok { OnOk result (EndsIn S.takes sink.old self.old (W.contents writer.old)
+            sink.new [] (W.contents writer.new)) }
+        ensures fault { IfErr result (λ fault. StopsAtEnd S.takes S.refuses sink.old self.old
+            (W.contents writer.old) fault (W.contents writer.new)) }
     {
         let ended = self.end_last(sink);
         write_out(writer, &self.output)?;
@@ -239,9 +233,8 @@ pub fn read_lines<R: Read, W: Write, S: LineSink>(
     ensures ok { OnOk result (IfSome (R.remaining reader.old) (λ input.
         Finishes S.takes sink.old input sink.new [] (W.contents writer.old)
         (W.contents writer.new))) }
-    ensures fault { IfErr result (λ fault. IfSome (R.remaining reader.old) (λ input.
-        Stops S.takes S.refuses sink.old input (R.remaining reader.new) fault
-        (W.contents writer.old) (W.contents writer.new))) }
+    ensures fault { FaultsAs result (Stops S.takes S.refuses sink.old) (R.remaining reader.old)
+        (R.remaining reader.new) (W.contents writer.old) (W.contents writer.new) }
 {
     let mut lines = LineReader::new(alloc);
     let mut buffer = [0u8; PIECE];

@@ -39,7 +39,7 @@ pub enum Job {
     Keep { entries: Vec<Entry> },
 }
 
-/// Writes all of the bytes. `WriteFault` comes if a write fails or takes no byte; the first of the bytes may be written then.
+/// Writes all of the bytes. `WriteFault` is returned if a write fails or takes no byte; the first of the bytes may be written then.
 pub fn write_out<W: Write>(writer: &mut W, bytes: &[u8]) -> Result<(), RunFault>
     ensures ok { OnOk result (Appends (W.contents writer.old) (W.contents writer.new) bytes.now) }
     ensures fault { IfErr result (λ fault. fault ≡ WriteFault) }
@@ -175,7 +175,7 @@ impl LineRunner {
         LineRunner::new(alloc, Job::Run { world, mode })
     }
 
-    /// A runner that carries out orders on a new world of `cpus` processors. `NoMemory` comes if the world cannot be made.
+    /// A runner that carries out orders on a new world of `cpus` processors. `NoMemory` is returned if the world cannot be made.
     pub fn on_world(alloc: Global, cpus: u8, mode: Mode) -> Result<LineRunner, RunFault>
         requires low { 1 ≤ cpus }
         requires high { cpus ≤ 16 }

@@ -10,7 +10,7 @@ use crate::script_reader::MAX_LINE;
 use lines::Line;
 use std::io::{ErrorKind, Read};
 
-/// Appends all that a reader has to the bytes. `ReadFault` or `NoMemory` comes if that fails.
+/// Appends all that a reader has to the bytes. `ReadFault` or `NoMemory` is returned if that fails.
 pub fn read_whole<R: Read>(reader: &mut R, bytes: &mut Vec<u8>) -> Result<(), RunFault>
     ensures ok { OnOk result (IfSome (R.remaining reader.old) (λ input.
         bytes.new.items ≡ bytes.old.items ++ input)) }
@@ -23,7 +23,7 @@ pub fn read_whole<R: Read>(reader: &mut R, bytes: &mut Vec<u8>) -> Result<(), Ru
     }
 }
 
-/// The text of a line of a script or a transcript. `Line` comes if the line has more than 256 bytes.
+/// The text of a line of a script or a transcript. `Line` is returned if the line has more than 256 bytes.
 pub fn short_text<'a>(line: Line<'a>) -> Result<&'a [u8], RunFault>
     ensures short { OnOk result (length line.entry.raw.now ≤ 256) }
     ensures ok { IfOk result (λ text. text.now ≡ line_text line.entry.ended line.entry.raw.now) }

@@ -14,7 +14,7 @@ use Rattle.expected.specs.declared.cpus.Setting.TheVariants.{Absent, Count, Wron
 use Rattle.expected.specs.declared.player.Player.{Player}
 use Rattle.expected.specs.declared.tester.Tester.{Tester}
 use Rattle.expected.specs.Cases.{Case, Asks, CpusLine, SaysCpus, IsCase, ReadsCases, DoesCase, Meets, Agrees, answers_of, answers_in}
-use Rattle.expected.specs.Tests.{difference_line, Unmet, WrongAt, SomeMet}
+use Rattle.expected.specs.Tests.{difference_line, Unmet, WrongAt, SomeMet, Comes}
 
 -- what the text of a first line says of the number of processors
 abbrev pub IsSetting : List ℕ → Setting → Type 0
@@ -88,3 +88,7 @@ FaultAtEnd cpus input (faults.Line n) = WrongAt cpus input n
 FaultAtEnd cpus input faults.ReadFault = ⊥
 FaultAtEnd cpus input faults.WriteFault = ⊥
 FaultAtEnd cpus input faults.NoMemory = SomeMet cpus input
+
+-- how the test of this input came out, as this state has it
+abbrev pub Came : List ℕ → ℕ → List ℕ → Outcome → Tester → Type 0
+Came name cpus input outcome state = Comes name cpus input outcome state.player.answers state.player.report.items

@@ -33,7 +33,8 @@ pub fn answer_script<R: Read, W: Write>(
     requires low { 1 ≤ cpus }
     requires high { cpus ≤ 16 }
 {
-    write_answers(alloc, reader, writer, cpus, Places::Every)
+    let mut answerer = Answerer::new(alloc, cpus, Places::Every)?;
+    answerer.write_answers(reader, writer)
 }
 
 /// The same for a reader: the output of each order stands beside it, in a column of its own, however long the line is.
@@ -46,27 +47,8 @@ pub fn echo_script<R: Read, W: Write>(
     requires low { 1 ≤ cpus }
     requires high { cpus ≤ 16 }
 {
-    write_answers(alloc, reader, writer, cpus, Places::Beside)
-}
-
-/// Reads a script, or a test, and writes it with the output of each order in these places.
-fn write_answers<R: Read, W: Write>(
-    alloc: Global,
-    reader: &mut R,
-    writer: &mut W,
-    cpus: u8,
-    places: Places,
-) -> Result<(), RunFault>
-    requires low { 1 ≤ cpus }
-    requires high { cpus ≤ 16 }
-{
-    let mut answerer = Answerer::new(alloc, cpus, places)?;
-    let answered = answerer.answer_input(reader);
-    match answered {
-        Ok(()) | Err(RunFault::Line(_)) => write_out(writer, &answerer.output)?,
-        Err(_) => {}
-    }
-    answered
+    let mut answerer = Answerer::new(alloc, cpus, Places::Beside)?;
+    answerer.write_answers(reader, writer)
 }
 
 /// A test with the answers that its lines have now.
@@ -232,5 +214,19 @@ impl Answerer {
         let mut input = Vec::new(self.alloc);
         read_whole(reader, &mut input)?;
         self.answer_lines(&input)
+    }
+
+    /// Reads a script, or a test, and writes it with its answers.
+    fn write_answers<R: Read, W: Write>(
+        &mut self,
+        reader: &mut R,
+        writer: &mut W,
+    ) -> Result<(), RunFault> {
+        let answered = self.answer_input(reader);
+        match answered {
+            Ok(()) | Err(RunFault::Line(_)) => write_out(writer, &self.output)?,
+            Err(_) => {}
+        }
+        answered
     }
 }

@@ -4,16 +4,15 @@ ghost use Rattle.std.specs.Prelude.{◌≤◌};
 
 use crate::outcome::{Outcome, Tested};
 use crate::player::Player;
-use engine::RunFault;
 use engine::line_runner::write_out;
 use engine::whole_input::{read_whole, short_text};
+use engine::{NamedScript, RunFault};
 use lines::Lines;
 use std::alloc::Global;
 use std::io::{Read, Write};
 
 /// Runs a test on a new world as [`test_script`](crate::test_script) does, but continues after an answer that differs: it writes the line
-/// of each of them. The world has as many processors as the first line says, and otherwise `cpus`, 1 to 16. [`Tested`] has the outcome, and
-/// how many answers were compared.
+/// of each of them. [`Tested`] has the outcome, and how many answers were compared.
 ///
 /// A line is wrong where `test_script` finds it wrong; then what differs before it is written. At any other fault but a write fault nothing
 /// is written. The whole input is kept until the end, and so is what is written.
@@ -21,19 +20,18 @@ pub fn list_differences<R: Read, W: Write>(
     alloc: Global,
     reader: &mut R,
     writer: &mut W,
-    name: &str,
-    cpus: u8,
+    test: NamedScript<'_>,
 ) -> Result<Tested, RunFault>
-    requires low { 1 ≤ cpus }
-    requires high { cpus ≤ 16 }
+    requires low { 1 ≤ test.cpus }
+    requires high { test.cpus ≤ 16 }
 {
     let mut input = Vec::new(alloc);
     read_whole(reader, &mut input)?;
     let mut lister = Lister {
-        player: Player::new(alloc, cpus)?,
+        player: Player::new(alloc, test.cpus)?,
         output: Vec::new(alloc),
     };
-    let listed = lister.list_lines(name, &input);
+    let listed = lister.list_lines(test.name, &input);
     match listed {
         Ok(()) | Err(RunFault::Line(_)) => write_out(writer, &lister.output)?,
         Err(_) => {}

@@ -23,7 +23,7 @@ use mig_base::NoMemory;
 use std::alloc::Global;
 use world::World;
 
-/// A new world of `cpus` processors. `NoMemory` comes if it cannot be made.
+/// A new world of `cpus` processors. `NoMemory` is returned if it cannot be made.
 fn new_world(alloc: Global, cpus: u8) -> Result<World, RunFault>
     requires low { 1 ≤ cpus }
     requires high { cpus ≤ 16 }
@@ -97,7 +97,7 @@ pub(crate) struct Player {
 }
 
 impl Player {
-    /// A player with a new world of `cpus` processors. `NoMemory` comes if the world cannot be made.
+    /// A player with a new world of `cpus` processors. `NoMemory` is returned if the world cannot be made.
     pub(crate) fn new(alloc: Global, cpus: u8) -> Result<Player, RunFault>
         requires low { 1 ≤ cpus }
         requires high { cpus ≤ 16 }

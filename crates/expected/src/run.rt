@@ -1,13 +1,14 @@
 //! Reading a test from a reader, and writing what differs to a writer.
 
 ghost use Rattle.std.specs.Prelude.{◌≡◌, ◌≤◌, ℕ, [], IfOk, IfErr, IfSome};
-ghost use Rattle.expected.specs.Tests.{Comes, HaltsTest, Tests, TestStops};
-ghost use Rattle.expected.specs.Parts.{Ran};
+ghost use Rattle.engine.specs.Lines.{FaultsAs};
+ghost use Rattle.expected.specs.Tests.{HaltsTest, Tests, TestStops};
+ghost use Rattle.expected.specs.Parts.{Came, Ran};
 
 use crate::outcome::{Outcome, Tested};
 use crate::tester::Tester;
-use engine::RunFault;
 use engine::line_runner::write_out;
+use engine::{NamedScript, RunFault};
 use std::alloc::Global;
 use std::io::{Read, Write};
 
@@ -15,7 +16,7 @@ use std::io::{Read, Write};
 const PIECE: usize = 16_384;
 
 /// Runs a script on a new world, and compares the output of each line with its answer, if it has one: the text after ` => `. The world has
-/// as many processors as the first line says, and otherwise `cpus`, 1 to 16.
+/// as many processors as the first line says, and otherwise as the test is given.
 ///
 /// At the first answer that differs it writes `NAME:LINE: expected ANSWER, got OUTPUT` and a line feed, and stops: LINE is counted from 1.
 /// Nothing else is written. A wrong line before that is the fault [`RunFault::Line`]. The promises of `world` hold for each world of a
@@ -27,20 +28,19 @@ pub fn test_script<R: Read, W: Write>(
     alloc: Global,
     reader: &mut R,
     writer: &mut W,
-    name: &str,
-    cpus: u8,
+    test: NamedScript<'_>,
 ) -> Result<Tested, RunFault>
-    requires low { 1 ≤ cpus }
-    requires high { cpus ≤ 16 }
+    requires low { 1 ≤ test.cpus }
+    requires high { test.cpus ≤ 16 }
     ensures ok { IfOk result (λ tested. IfSome (R.remaining reader.old) (λ input.
-        Tests name.now cpus input tested.outcome tested.answers (W.contents writer.old)
-        (W.contents writer.new))) }
-    ensures fault { IfErr result (λ fault. IfSome (R.remaining reader.old) (λ input.
-        TestStops name.now cpus input (R.remaining reader.new) fault (W.contents writer.old)
-        (W.contents writer.new))) }
+        Tests test.entry.name.now test.entry.cpus input tested.outcome tested.answers
+        (W.contents writer.old) (W.contents writer.new))) }
+    ensures fault { FaultsAs result (TestStops test.entry.name.now test.entry.cpus)
+        (R.remaining reader.old) (R.remaining reader.new) (W.contents writer.old)
+        (W.contents writer.new) }
 {
-    let mut tester = Tester::new(alloc, cpus)?;
-    match test_lines(reader, name, &mut tester)? {
+    let mut tester = Tester::new(alloc, test.cpus)?;
+    match test_lines(reader, test.name, &mut tester)? {
         Outcome::Same => Ok(Tested {
             outcome: Outcome::Same,
             answers: tester.player.answers,
@@ -60,8 +60,7 @@ fn test_lines<R: Read>(reader: &mut R, name: &str, tester: &mut Tester) -> Resul
     requires { tester.old.number ≡ 0 }
     ensures ok { IfOk result (λ outcome. (cpus : ℕ) → Ran cpus [] tester.old →
         IfSome (R.remaining reader.old) (λ input.
-        Comes name.now cpus input outcome tester.new.player.answers
-        tester.new.player.report.items)) }
+        Came name.now cpus input outcome tester.new)) }
     ensures fault { IfErr result (λ fault. (cpus : ℕ) → Ran cpus [] tester.old →
         IfSome (R.remaining reader.old) (λ input.
         HaltsTest cpus input (R.remaining reader.new) fault)) }

@@ -24,7 +24,7 @@ pub(crate) struct Tester {
 }
 
 impl Tester {
-    /// A test of which nothing is read, on a new world of `cpus` processors. `NoMemory` comes if the world cannot be made.
+    /// A test of which nothing is read, on a new world of `cpus` processors. `NoMemory` is returned if the world cannot be made.
     pub(crate) fn new(alloc: Global, cpus: u8) -> Result<Tester, RunFault>
         requires low { 1 ≤ cpus }
         requires high { cpus ≤ 16 }

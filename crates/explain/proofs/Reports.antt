@@ -13,7 +13,7 @@ use Rattle.engine.specs.Checking.{wrong_line, IsTranscript}
 use Rattle.engine.specs.Engine.{Work, kept_entries, nothing_kept, Outputs, Front, ReadsAll}
 use Rattle.engine.proofs.Outcomes.{check_stopped, check_memory, works_kept, missing_some, read_silently}
 use Rattle.explain.specs.declared.explain.Asks.{Asks}
-use Rattle.explain.specs.declared.wrong.Wrong.{Wrong}
+use Rattle.explain.specs.declared.wrong.WrongReply.{WrongReply}
 use Rattle.explain.specs.Explaining.{IsReason, IsReport, ListsWrong, Explains, ExplainStops}
 
 -- ---- reading
@@ -69,7 +69,7 @@ explain_unwritten asks (Some input) end u v w x answer text a report front = rec
 
 -- ---- the list
 
-lists_push : (reasons : Bool) (wrongs : List Wrong) (text : List ℕ) (wrong : Wrong) (reason : List ℕ) → ListsWrong reasons wrongs text → IsReason reasons reason
+lists_push : (reasons : Bool) (wrongs : List WrongReply) (text : List ℕ) (wrong : WrongReply) (reason : List ℕ) → ListsWrong reasons wrongs text → IsReason reasons reason
     → ListsWrong reasons (wrongs ++ wrong ∷ []) (text ++ wrong_line wrong.index wrong.expected ++ reason)
 lists_push reasons [] text wrong reason lists is =
     let line = wrong_line wrong.index wrong.expected in
@@ -81,8 +81,8 @@ lists_push reasons (w ∷ wrongs) text wrong reason lists is =
     ap (λ (t : List ℕ). (t ++ line) ++ reason) lists.3 ∙ ap (λ (t : List ℕ). t ++ reason) (append_assoc front lists.1 line) ∙ append_assoc front (lists.1 ++ line) reason in
     (lists.0, (lists.1 ++ line) ++ reason, lists.2, same, lists_push reasons wrongs lists.1 wrong reason lists.4 is)
 
-pub lists_more : (reasons : Bool) (wrongs : List Wrong) (i : ℕ) (old new reason : List ℕ) (wrong : Wrong) → i < length wrongs → ListsWrong reasons (take i wrongs) old → IsReason reasons reason
+pub lists_more : (reasons : Bool) (wrongs : List WrongReply) (i : ℕ) (old new reason : List ℕ) (wrong : WrongReply) → i < length wrongs → ListsWrong reasons (take i wrongs) old → IsReason reasons reason
     → new ≡ old ++ wrong_line (get_or wrongs i wrong).index (get_or wrongs i wrong).expected ++ reason → ListsWrong reasons (take (i + 1) wrongs) new
 lists_more reasons wrongs i old new reason wrong below lists is same =
-    subst (λ (ws : List Wrong). ListsWrong reasons ws new) (sym (take_more wrongs i wrong below))
+    subst (λ (ws : List WrongReply). ListsWrong reasons ws new) (sym (take_more wrongs i wrong below))
     (subst (λ (t : List ℕ). ListsWrong reasons (take i wrongs ++ get_or wrongs i wrong ∷ []) t) (sym same) (lists_push reasons (take i wrongs) old (get_or wrongs i wrong) reason lists is))

@@ -5,18 +5,18 @@ use Rattle.mig_base.specs.declared.command.Entry.{Entry}
 use Rattle.mig_base.specs.declared.command.Reply.{Reply}
 use Rattle.mig_base.specs.Flat.{Memory, no_memory, reply_of, after, memory_from, memory_of}
 use Rattle.report.proofs.CheckLemmas.{no_entry}
-use Rattle.explain.specs.declared.wrong.Wrong.{Wrong}
+use Rattle.explain.specs.declared.wrong.WrongReply.{WrongReply}
 use Rattle.explain.specs.Explaining.{AreWrong}
 
 -- an entry that is right adds none
-pub right_more : (memory : Memory) (index : ℕ) (entries : List Entry) (wrongs : List Wrong) (entry : Entry) → AreWrong memory index entries wrongs → entry.reply ≡ reply_of (memory_from memory entries) entry.command
+pub right_more : (memory : Memory) (index : ℕ) (entries : List Entry) (wrongs : List WrongReply) (entry : Entry) → AreWrong memory index entries wrongs → entry.reply ≡ reply_of (memory_from memory entries) entry.command
     → AreWrong memory index (entries ++ entry ∷ []) wrongs
 right_more memory index [] wrongs entry are right = inl (right, are)
 right_more memory index (e ∷ entries) wrongs entry (inl p) right = inl (p.0, right_more (after memory e.command) (index + 1) entries wrongs entry p.1 right)
 right_more memory index (e ∷ entries) wrongs entry (inr p) right = inr (p.0, p.1, p.2, right_more (after memory e.command) (index + 1) entries p.0 entry p.3 right)
 
 -- one that is wrong adds itself
-pub wrong_more : (memory : Memory) (index at : ℕ) (entries : List Entry) (wrongs : List Wrong) (entry : Entry) → at ≡ index + length entries → AreWrong memory index entries wrongs
+pub wrong_more : (memory : Memory) (index at : ℕ) (entries : List Entry) (wrongs : List WrongReply) (entry : Entry) → at ≡ index + length entries → AreWrong memory index entries wrongs
     → entry.reply ≢ reply_of (memory_from memory entries) entry.command
     → AreWrong memory index (entries ++ entry ∷ []) (wrongs ++ (record { index = at; expected = reply_of (memory_from memory entries) entry.command }) ∷ [])
 wrong_more memory index at [] wrongs entry is are differs =
@@ -29,12 +29,12 @@ wrong_more memory index at (e ∷ entries) wrongs entry is (inr p) differs =
 
 -- The loop
 
-pub right_step : (entries : List Entry) (i : ℕ) (wrongs : List Wrong) → i < length entries → AreWrong no_memory 0 (take i entries) wrongs
+pub right_step : (entries : List Entry) (i : ℕ) (wrongs : List WrongReply) → i < length entries → AreWrong no_memory 0 (take i entries) wrongs
     → (get_or entries i no_entry).reply ≡ reply_of (memory_of (take i entries)) (get_or entries i no_entry).command → AreWrong no_memory 0 (take (i + 1) entries) wrongs
 right_step entries i wrongs below are right =
     subst (λ (es : List Entry). AreWrong no_memory 0 es wrongs) (sym (take_more entries i no_entry below)) (right_more no_memory 0 (take i entries) wrongs (get_or entries i no_entry) are right)
 
-pub wrong_step : (entries : List Entry) (i : ℕ) (wrongs : List Wrong) (expected : Reply) → i < length entries → AreWrong no_memory 0 (take i entries) wrongs
+pub wrong_step : (entries : List Entry) (i : ℕ) (wrongs : List WrongReply) (expected : Reply) → i < length entries → AreWrong no_memory 0 (take i entries) wrongs
     → expected ≡ reply_of (memory_of (take i entries)) (get_or entries i no_entry).command → (get_or entries i no_entry).reply ≢ expected
     → AreWrong no_memory 0 (take (i + 1) entries) (wrongs ++ (record { index = i; expected = expected }) ∷ [])
 wrong_step entries i wrongs expected below are same differs =

@@ -9,15 +9,15 @@ use Rattle.engine.specs.declared.fault.RunFault.TheVariants as faults
 use Rattle.engine.specs.Script.{StopsBy}
 use Rattle.engine.specs.Checking.{IsTranscript, Silent, ok_line, wrong_line}
 use Rattle.explain.specs.declared.explain.Asks.{Asks}
-use Rattle.explain.specs.declared.wrong.Wrong.{Wrong}
+use Rattle.explain.specs.declared.wrong.WrongReply.{WrongReply}
 
 -- of the entries, made on this memory and counted from the index on, these are all whose reply is not the memory's, in order, each with
 -- the reply that it gives
-abbrev pub AreWrong : Memory → ℕ → List Entry → List Wrong → Type 0
+abbrev pub AreWrong : Memory → ℕ → List Entry → List WrongReply → Type 0
 AreWrong memory index [] wrongs = wrongs ≡ []
 AreWrong memory index (entry ∷ entries) wrongs =
     ((entry.reply ≡ reply_of memory entry.command) × AreWrong (after memory entry.command) (index + 1) entries wrongs)
-    ⊎ ((rest : List Wrong)
+    ⊎ ((rest : List WrongReply)
     × (entry.reply ≢ reply_of memory entry.command)
     × (wrongs ≡ (record { index = index; expected = reply_of memory entry.command }) ∷ rest)
     × AreWrong (after memory entry.command) (index + 1) entries rest)
@@ -28,24 +28,24 @@ IsReason true text = ⊤
 IsReason false text = text ≡ []
 
 -- the line of each wrong entry, in order, and after each its reason
-abbrev pub ListsWrong : Bool → List Wrong → List ℕ → Type 0
+abbrev pub ListsWrong : Bool → List WrongReply → List ℕ → Type 0
 ListsWrong reasons [] text = text ≡ []
 ListsWrong reasons (wrong ∷ wrongs) text =
     (reason : List ℕ) × (rest : List ℕ) × IsReason reasons reason × (text ≡ wrong_line wrong.index wrong.expected ++ reason ++ rest) × ListsWrong reasons wrongs rest
 
 -- the wrong entries that are listed: all, or the first alone
-abbrev pub listed : Bool → List Wrong → List Wrong
+abbrev pub listed : Bool → List WrongReply → List WrongReply
 listed true wrongs = wrongs
 listed false wrongs = take 1 wrongs
 
 -- what is written of `count` entries of which these are wrong, and whether all is well
-abbrev pub ExplainsAll : Asks → ℕ → List Wrong → Bool → List ℕ → Type 0
+abbrev pub ExplainsAll : Asks → ℕ → List WrongReply → Bool → List ℕ → Type 0
 ExplainsAll asks count [] answer text = (answer ≡ true) × (text ≡ ok_line count)
 ExplainsAll asks count (wrong ∷ wrongs) answer text = (answer ≡ false) × ListsWrong asks.reasons (listed asks.all (wrong ∷ wrongs)) text
 
 -- what is written of entries
 abbrev pub IsReport : Asks → List Entry → Bool → List ℕ → Type 0
-IsReport asks entries answer text = (wrongs : List Wrong) × AreWrong no_memory 0 entries wrongs × ExplainsAll asks (length entries) wrongs answer text
+IsReport asks entries answer text = (wrongs : List WrongReply) × AreWrong no_memory 0 entries wrongs × ExplainsAll asks (length entries) wrongs answer text
 
 -- the input is a transcript of `count` entries, and its report was written
 pub record Explains (asks : Asks) (input : List ℕ) (answer : Bool) (count : ℕ) (before after : Option (List ℕ)) : Type 0 where

@@ -1,7 +1,7 @@
--- What a clause reads of a `Noting`.
+-- What a clause reads of a `NotingReader`.
 use Rattle.std.specs.Prelude.{ℕ, List, Option}
-use Rattle.explain.specs.declared.noting.Noting.{Noting}
+use Rattle.explain.specs.declared.noting.NotingReader.{NotingReader}
 
 -- the bytes that its reader has left, where they are known
-abbrev pub unread : {R : Type 0} → (R → Option (List ℕ)) → Noting R → Option (List ℕ)
+abbrev pub unread : {R : Type 0} → (R → Option (List ℕ)) → NotingReader R → Option (List ℕ)
 unread remaining noting = remaining noting.reader

@@ -1,6 +1,6 @@
 //! A transcript that was read and replayed.
 
-use crate::wrong::Wrong;
+use crate::wrong::WrongReply;
 use grammar::EntryText;
 use mig_base::{Entry, NoMemory};
 use std::alloc::Global;
@@ -21,7 +21,7 @@ impl<'a> Account<'a> {
     pub(crate) fn new(
         alloc: Global,
         entries: &'a [Entry],
-        wrongs: &[Wrong],
+        wrongs: &[WrongReply],
         lines: &'a [u64],
     ) -> Result<Account<'a>, NoMemory> {
         let mut answered = Vec::with_capacity(alloc, entries.len())?;

@@ -7,7 +7,7 @@ use std::alloc::Global;
 
 /// Bytes that differ, one after the other, which the same entries decide.
 #[derive(Drop)]
-pub(crate) struct Differing {
+pub(crate) struct DifferingBytes {
     pub span: Span,
     /// The indexes of the entries, in order.
     pub holders: Vec<usize>,
@@ -19,8 +19,8 @@ pub(crate) fn differing_parts(
     past: &[Entry],
     load: Span,
     difference: u64,
-) -> Result<Vec<Differing>, NoMemory> {
-    let mut parts: Vec<Differing> = Vec::new(alloc);
+) -> Result<Vec<DifferingBytes>, NoMemory> {
+    let mut parts: Vec<DifferingBytes> = Vec::new(alloc);
     let mut addr = load.start;
     for byte in difference.to_le_bytes() {
         let span = Span::bytes(addr, 1);
@@ -33,7 +33,7 @@ pub(crate) fn differing_parts(
             Some(part) if part.span.end == span.start && part.holders == holders => {
                 part.span.end = span.end;
             }
-            _ => parts.push(Differing { span, holders })?,
+            _ => parts.push(DifferingBytes { span, holders })?,
         }
     }
     Ok(parts)

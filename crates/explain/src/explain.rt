@@ -1,15 +1,15 @@
 //! The report on the transcript that a reader gives.
 
-ghost use Rattle.std.specs.Prelude.{◌≡◌, ◌++◌, ℕ, List, [], IfOk, IfErr, IfSome, OnOk, string_bytes};
+ghost use Rattle.std.specs.Prelude.{◌≡◌, ◌++◌, ℕ, List, [], IfOk, IfSome, OnOk, string_bytes};
 ghost use Rattle.engine.specs.Checking.{wrong_line};
-ghost use Rattle.engine.specs.Engine.{start_of, nothing_kept};
+ghost use Rattle.engine.specs.Lines.{FaultsAs};
 ghost use Rattle.explain.specs.Unread.{unread};
 ghost use Rattle.explain.specs.Explaining.{IsReason, IsReport, ListsWrong, Explains, ExplainStops};
 
 use crate::account::Account;
-use crate::noting::Noting;
+use crate::noting::NotingReader;
 use crate::reason::reason_of;
-use crate::wrong::{Wrong, wrong_entries};
+use crate::wrong::{WrongReply, wrong_entries};
 use engine::line_runner::write_out;
 use engine::run::read_lines;
 use engine::{LineRunner, RunFault, ScriptReader};
@@ -43,44 +43,22 @@ pub struct Verdict {
 /// with a read fault. An interrupted read or write is a fault.
 pub fn explain_script<R: Read, W: Write>(
     alloc: Global,
-    reader: &mut Noting<R>,
+    reader: &mut NotingReader<R>,
     writer: &mut W,
     asks: Asks,
 ) -> Result<Verdict, RunFault>
     ensures ok { IfOk result (λ verdict. IfSome (unread R.remaining reader.old) (λ input.
         Explains asks input verdict.is_flat verdict.entries (W.contents writer.old)
         (W.contents writer.new))) }
-    ensures fault { IfErr result (λ fault. IfSome (unread R.remaining reader.old) (λ input.
-        ExplainStops asks input (unread R.remaining reader.new) fault (W.contents writer.old)
-        (W.contents writer.new))) }
+    ensures fault { FaultsAs result (ExplainStops asks) (unread R.remaining reader.old)
+        (unread R.remaining reader.new) (W.contents writer.old) (W.contents writer.new) }
 {
     let mut script = ScriptReader::new(alloc, LineRunner::keeping(alloc));
-    let mut text = String::new(alloc);
-    answer_of(alloc, reader, writer, &mut script, &mut text, asks)
-}
-
-/// Reads the entries of a whole transcript, and writes the report on them, whose text is left.
-fn answer_of<R: Read, W: Write>(
-    alloc: Global,
-    reader: &mut Noting<R>,
-    writer: &mut W,
-    script: &mut ScriptReader,
-    text: &mut String,
-    asks: Asks,
-) -> Result<Verdict, RunFault>
-    requires start { script.old ≡ start_of nothing_kept }
-    requires empty { string_bytes text.old ≡ [] }
-    ensures ok { IfOk result (λ verdict. IfSome (unread R.remaining reader.old) (λ input.
-        Explains asks input verdict.is_flat verdict.entries (W.contents writer.old)
-        (W.contents writer.new))) }
-    ensures fault { IfErr result (λ fault. IfSome (unread R.remaining reader.old) (λ input.
-        ExplainStops asks input (unread R.remaining reader.new) fault (W.contents writer.old)
-        (W.contents writer.new))) }
-{
-    read_lines(reader, writer, script)?;
+    read_lines(reader, writer, &mut script)?;
     let lines = reader.lines()?;
     let entries = script.entries();
-    let answer = write_report(alloc, text, entries, lines, asks)?;
+    let mut text = String::new(alloc);
+    let answer = write_report(alloc, &mut text, entries, lines, asks)?;
     write_out(writer, text.as_bytes())?;
     Ok(Verdict {
         is_flat: answer,
@@ -116,7 +94,7 @@ fn list(
     alloc: Global,
     text: &mut String,
     account: &Account<'_>,
-    wrongs: &[Wrong],
+    wrongs: &[WrongReply],
     reasons: bool,
 ) -> Result<(), NoMemory>
     requires { string_bytes text.old ≡ [] }
@@ -133,7 +111,7 @@ fn write_wrong(
     alloc: Global,
     text: &mut String,
     account: &Account<'_>,
-    wrong: Wrong,
+    wrong: WrongReply,
     reasons: bool,
 ) -> Result<(), NoMemory>
     ensures { OnOk result ((reason : List ℕ) × IsReason reasons reason ×

@@ -20,5 +20,5 @@ mod touch;
 mod wrong;
 
 pub use crate::explain::{Asks, Verdict, explain_script};
-pub use crate::noting::Noting;
-pub use crate::wrong::{Wrong, wrong_entries};
+pub use crate::noting::NotingReader;
+pub use crate::wrong::{WrongReply, wrong_entries};

@@ -47,14 +47,14 @@ impl Notes {
 
 /// A reader of a transcript that notes the lines that entries are in.
 #[derive(Drop)]
-pub struct Noting<R> {
+pub struct NotingReader<R> {
     reader: R,
     notes: Notes,
 }
 
-impl<R: Read> Noting<R> {
+impl<R: Read> NotingReader<R> {
     /// Notes what is read of a reader, which is at the start of a transcript. Nothing is read yet.
-    pub fn new(alloc: Global, reader: R) -> Noting<R>
+    pub fn new(alloc: Global, reader: R) -> NotingReader<R>
         ensures { unread R.remaining result ≡ R.remaining reader }
     {
         let notes = Notes {
@@ -63,7 +63,7 @@ impl<R: Read> Noting<R> {
             has_begun: false,
             is_short: false,
         };
-        Noting { reader, notes }
+        NotingReader { reader, notes }
     }
 
     /// The numbers of the lines with an entry, in order. None where one was lost for lack of memory.
@@ -75,7 +75,7 @@ impl<R: Read> Noting<R> {
     }
 }
 
-impl<R: Read> Read for Noting<R> {
+impl<R: Read> Read for NotingReader<R> {
     ghost remaining = { unread R.remaining };
 
     fn read(&mut self, buf: &mut [u8]) -> io::Result<usize> {

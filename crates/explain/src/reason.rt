@@ -4,9 +4,9 @@ use crate::account::Account;
 use crate::differing::differing_parts;
 use crate::span::Span;
 use crate::stored::{MAX_STORES, stores_of};
-use crate::stretches::{Fate, Stretch, stretches};
+use crate::stretches::{RangeOutcome, Stretch, stretches};
 use crate::touch::{has_unmapped, mappers};
-use crate::wrong::Wrong;
+use crate::wrong::WrongReply;
 use mig_base::{Addr, Command, Entry, Errno, HIGH, NoMemory, PAGE_SIZE, Place, Reply};
 use std::alloc::Global;
 
@@ -19,7 +19,7 @@ const NO_ENTRY: &str = "  no earlier entry decides this reply\n";
 pub(crate) fn reason_of(
     alloc: Global,
     account: &Account<'_>,
-    wrong: Wrong,
+    wrong: WrongReply,
 ) -> Result<String, NoMemory> {
     let mut text = String::new(alloc);
     let Some(entry) = account.entry(wrong.index) else {
@@ -159,7 +159,7 @@ impl Reason<'_> {
         self.cite_all(text, &mappers)
     }
 
-    /// Of an mmap the places that either reply names, and the one that has to be free.
+    /// Of an mmap the places that either reply names, and the one that must be free.
     fn write_mmap(&self, text: &mut String, len: u64, place: Place) -> Result<(), NoMemory> {
         let is_placed = match place {
             Place::Anywhere => self.write_places(text, None, len)?,
@@ -232,7 +232,7 @@ impl Reason<'_> {
             end: HIGH,
         };
         for stretch in stretches(self.alloc, self.past, whole)?.iter() {
-            if let Fate::Mapped { .. } = stretch.fate {
+            if let RangeOutcome::Mapped { .. } = stretch.fate {
                 bytes = bytes.saturating_add(stretch.span.len());
             }
         }
@@ -258,12 +258,15 @@ impl Reason<'_> {
         let first = part.span.start;
         let last = part.span.end.saturating_sub(1);
         match part.fate {
-            Fate::NeverMapped => write!(text, "  0x{first:x} to 0x{last:x} was never mapped\n")?,
-            Fate::Mapped { by } => {
+            RangeOutcome::NeverMapped => write!(
+                text,
+                "  0x{first:x} to 0x{last:x} was never mapped\n"
+            )?,
+            RangeOutcome::Mapped { by } => {
                 write!(text, "  0x{first:x} to 0x{last:x} is mapped:\n")?;
                 self.account.cite(text, "    ", by)?;
             }
-            Fate::Unmapped { by } => {
+            RangeOutcome::Unmapped { by } => {
                 write!(text, "  0x{first:x} to 0x{last:x} is free:\n")?;
                 self.account.cite(text, "    ", by)?;
             }

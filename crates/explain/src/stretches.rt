@@ -6,7 +6,7 @@ use std::alloc::Global;
 
 /// What became of a range.
 #[derive(Clone, Copy)]
-pub(crate) enum Fate {
+pub(crate) enum RangeOutcome {
     /// The entry at this index mapped it, or moved it here.
     Mapped { by: usize },
     /// The entry at this index unmapped it, or moved it away.
@@ -18,7 +18,7 @@ pub(crate) enum Fate {
 #[derive(Clone, Copy)]
 pub(crate) struct Stretch {
     pub span: Span,
-    pub fate: Fate,
+    pub fate: RangeOutcome,
 }
 
 /// Parts of a range, and those whose fate is not known yet.
@@ -30,7 +30,7 @@ struct Search {
 
 impl Search {
     /// Gives this fate to what is open of a range.
-    fn close(&mut self, alloc: Global, range: Span, fate: Fate) -> Result<(), NoMemory> {
+    fn close(&mut self, alloc: Global, range: Span, fate: RangeOutcome) -> Result<(), NoMemory> {
         let mut open = Vec::new(alloc);
         for span in self.open.iter() {
             let Some(common) = span.common(range) else {
@@ -69,16 +69,16 @@ pub(crate) fn stretches(
     search.open.push(span)?;
     for (index, entry) in past.iter().enumerate().rev() {
         if let Some(range) = mapped_range(entry) {
-            search.close(alloc, range, Fate::Mapped { by: index })?;
+            search.close(alloc, range, RangeOutcome::Mapped { by: index })?;
         }
         if let Some(range) = unmapped_range(entry) {
-            search.close(alloc, range, Fate::Unmapped { by: index })?;
+            search.close(alloc, range, RangeOutcome::Unmapped { by: index })?;
         }
         if search.open.is_empty() {
             break;
         }
     }
-    search.close(alloc, span, Fate::NeverMapped)?;
+    search.close(alloc, span, RangeOutcome::NeverMapped)?;
     search
         .found
         .sort_unstable_by_key(|stretch| stretch.span.start);

@@ -11,7 +11,7 @@ use std::alloc::Global;
 
 /// An entry with another reply than the flat memory's.
 #[derive(Clone, Copy)]
-pub struct Wrong {
+pub struct WrongReply {
     /// Counted from 0.
     pub index: usize,
     /// The reply of the flat memory.
@@ -19,7 +19,7 @@ pub struct Wrong {
 }
 
 /// Replays entries on one flat memory, and lists all that are wrong, in order. The flat memory continues from its own reply.
-pub fn wrong_entries(alloc: Global, entries: &[Entry]) -> Result<Vec<Wrong>, NoMemory>
+pub fn wrong_entries(alloc: Global, entries: &[Entry]) -> Result<Vec<WrongReply>, NoMemory>
     ensures { IfOk result (λ wrongs. AreWrong no_memory 0 entries.now wrongs.items) }
 {
     let mut host = Host::new(alloc);
@@ -27,7 +27,7 @@ pub fn wrong_entries(alloc: Global, entries: &[Entry]) -> Result<Vec<Wrong>, NoM
 }
 
 /// Replays entries on a host on which nothing is mapped.
-fn replay(alloc: Global, host: &mut Host, entries: &[Entry]) -> Result<Vec<Wrong>, NoMemory>
+fn replay(alloc: Global, host: &mut Host, entries: &[Entry]) -> Result<Vec<WrongReply>, NoMemory>
     requires { memory host.old ≡ no_memory }
     ensures { IfOk result (λ wrongs. AreWrong no_memory 0 entries.now wrongs.items) }
 {
@@ -35,7 +35,7 @@ fn replay(alloc: Global, host: &mut Host, entries: &[Entry]) -> Result<Vec<Wrong
     for (index, entry) in entries.iter().enumerate() {
         let expected = host.perform(entry.command)?;
         if entry.reply != expected {
-            wrongs.push(Wrong { index, expected })?;
+            wrongs.push(WrongReply { index, expected })?;
         }
     }
     Ok(wrongs)

@@ -1,5 +1,5 @@
 -- The text of an exploration: a comment, the lines of a script, and after each what a run prints for it.
-use Rattle.std.specs.Prelude.{◌≡◌, ℕ, ◌≤◌, ◌⊎◌, ⊤, List, [], ◌∷◌, ◌++◌, length, Bool, true, false, Option, codes}
+use Rattle.std.specs.Prelude.{◌≡◌, ℕ, ◌≤◌, ◌⊎◌, ◌||◌, ⊤, List, [], ◌∷◌, ◌++◌, length, Bool, true, false, Option, codes}
 use Rattle.std.specs.Io.KnownBytes.{Appends}
 use Rattle.mig_base.specs.declared.schedule.Step.{Step}
 use Rattle.mig_model.specs.Migration.{World, next}
@@ -12,6 +12,7 @@ use Rattle.grammar.specs.Lines.{IsLine, Reads}
 use Rattle.engine.specs.declared.line_runner.Mode.TheVariants.{Lines}
 use Rattle.engine.specs.Script.{Obeys, Runs}
 use Rattle.finish.specs.Finishing.{needs_epoch}
+use Rattle.explore.specs.declared.plan.Plan.{Plan}
 
 -- what follows the text of a line: its line feed, or with answers => and the line that a run prints
 abbrev pub tail : Bool → List ℕ → List ℕ
@@ -112,6 +113,24 @@ pub record Stops (answers longer : Bool) (start : World) (most : ℕ) (before af
 abbrev pub StopsOn : Bool → World → Option (List ℕ) → List ℕ → Option (List ℕ) → Type 0
 StopsOn answers old gone output now = (start : World) (count : ℕ) (before : Option (List ℕ)) → Going answers start count old before gone output
     → Stops answers true start count before now
+
+-- The text of a plan
+
+-- the whole text was written
+abbrev pub WritesPlan : Plan → World → Option (List ℕ) → Option (List ℕ) → Type 0
+WritesPlan plan start before after = Writes plan.answers plan.finish plan.sweep start plan.steps before after
+
+-- a front of it was written
+abbrev pub StopsPlan : Plan → World → Option (List ℕ) → Option (List ℕ) → Type 0
+StopsPlan plan start before after = Stops plan.answers (plan.finish || plan.sweep) start plan.steps before after
+
+-- wherever the steps of the plan led here from, the whole text was written
+abbrev pub CompletesPlan : Plan → World → Option (List ℕ) → List ℕ → Option (List ℕ) → Type 0
+CompletesPlan plan old gone output now = (start : World) (before : Option (List ℕ)) → Going plan.answers start plan.steps old before gone output → WritesPlan plan start before now
+
+-- and here a front of it
+abbrev pub CutsPlan : Plan → World → Option (List ℕ) → List ℕ → Option (List ℕ) → Type 0
+CutsPlan plan old gone output now = (start : World) (before : Option (List ℕ)) → Going plan.answers start plan.steps old before gone output → StopsPlan plan start before now
 
 -- the text is a script of this number of lines, whose run leads from the first state to the last
 pub record IsScript (start end : World) (count : ℕ) (text : List ℕ) : Type 0 where

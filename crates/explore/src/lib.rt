@@ -24,6 +24,6 @@ mod steps;
 mod sweep;
 mod weights;
 
-pub use crate::meetings::{Meeting, Met, Tally, meet_all};
+pub use crate::meetings::{Meeting, MetByAll, Tally, meet_all};
 pub use crate::plan::{Plan, Profile, VERSION};
 pub use crate::run::run_explore;

@@ -38,7 +38,7 @@ pub struct Meeting {
 
 /// What all schedules of a small world meet.
 #[derive(Drop)]
-pub struct Met {
+pub struct MetByAll {
     pub tally: Tally,
     /// In the order of a walk that is breadth first.
     pub meetings: Vec<Meeting>,
@@ -150,7 +150,7 @@ fn add_line(script: &mut Vec<u8>, line: &mut String, step: Step) -> Result<(), R
 }
 
 /// Looks at each state that the walk of a small world found, and keeps a script for each refusal that its schedules meet.
-pub fn meet_all(alloc: Global, small: &Small, walked: &Walked) -> Result<Met, RunFault>
+pub fn meet_all(alloc: Global, small: &Small, walked: &Walked) -> Result<MetByAll, RunFault>
     ensures { IfOk result (λ met. met.tally.states ≡ length walked.now.worlds.items) }
 {
     let mut meetings = Meetings::new(alloc, *small);
@@ -158,7 +158,7 @@ pub fn meet_all(alloc: Global, small: &Small, walked: &Walked) -> Result<Met, Ru
         meetings.look_at(found, &walked.turns)?;
     }
     let states = walked.worlds.len() as u64;
-    Ok(Met {
+    Ok(MetByAll {
         tally: Tally {
             states,
             ..meetings.tally

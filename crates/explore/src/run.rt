@@ -1,14 +1,14 @@
 //! Writing a whole script.
 
-ghost use Rattle.std.specs.Prelude.{◌≡◌, ◌<◌, ◌≤◌, ◌⊎◌, ◌||◌, ℕ, List, [], Option, true, OnOk, OnErr};
+ghost use Rattle.std.specs.Prelude.{◌≡◌, ◌≤◌, ◌⊎◌, [], true, OnOk, OnErr};
 ghost use Rattle.std.specs.Io.KnownBytes.{Appends};
 ghost use Rattle.engine.specs.Engine.{Front};
-ghost use Rattle.mig_model.specs.Migration.{World as Machine, first_world};
+ghost use Rattle.mig_model.specs.Migration.{first_world};
 ghost use Rattle.mig_model.specs.Promises.{IsComplete};
 ghost use Rattle.finish.specs.Finishing.{needs_epoch};
-ghost use Rattle.explore.specs.Explorations.{Explored, Gone, Going, GoesOn, StopsOn, Writes, Stops};
+ghost use Rattle.explore.specs.Explorations.{CompletesPlan, CutsPlan, Explored, Gone, GoesOn, StopsOn, StopsPlan, WritesPlan};
 
-use crate::course::{Course, Memo, draw_course};
+use crate::course::{Memo, draw_course};
 use crate::plan::Plan;
 use crate::sheet::Sheet;
 use crate::steps::draw_order;
@@ -17,7 +17,6 @@ use engine::RunFault;
 use engine::line_runner::write_out;
 use finish::next_to_finish;
 use grammar::Order;
-use rand_core::Rng;
 use rand_pcg::Pcg32;
 use std::alloc::Global;
 use std::io::Write;
@@ -41,12 +40,10 @@ pub fn run_explore<W: Write>(alloc: Global, writer: &mut W, plan: &Plan) -> Resu
     requires high { plan.now.cpus ≤ 16 }
     requires some { 1 ≤ plan.now.pages }
     requires few { plan.now.pages ≤ 4096 }
-    ensures ok { OnOk result
-        (Writes plan.now.answers plan.now.finish plan.now.sweep (first_world plan.now.cpus)
-        plan.now.steps (W.contents writer.old) (W.contents writer.new)) }
-    ensures fault { OnErr result
-        (Stops plan.now.answers (plan.now.finish || plan.now.sweep) (first_world plan.now.cpus)
-        plan.now.steps (W.contents writer.old) (W.contents writer.new)) }
+    ensures ok { OnOk result (WritesPlan plan.now (first_world plan.now.cpus)
+        (W.contents writer.old) (W.contents writer.new)) }
+    ensures fault { OnErr result (StopsPlan plan.now (first_world plan.now.cpus)
+        (W.contents writer.old) (W.contents writer.new)) }
 {
     let Ok(mut world) = World::new(alloc, plan.cpus) else {
         return Err(RunFault::NoMemory);
@@ -68,15 +65,19 @@ fn write_script<W: Write>(
     requires few { plan.now.pages ≤ 4096 }
     requires start { Explored plan.now.answers world.old 0 world.old sheet.old.output.items }
     ensures ok { OnOk result
-        (Writes plan.now.answers plan.now.finish plan.now.sweep world.old plan.now.steps
-        (W.contents writer.old) (W.contents writer.new)) }
+        (WritesPlan plan.now world.old (W.contents writer.old) (W.contents writer.new)) }
     ensures fault { OnErr result
-        (Stops plan.now.answers (plan.now.finish || plan.now.sweep) world.old plan.now.steps
-        (W.contents writer.old) (W.contents writer.new)) }
+        (StopsPlan plan.now world.old (W.contents writer.old) (W.contents writer.new)) }
 {
     let mut rng = Pcg32::new(plan.seed, STREAM);
     let course = draw_course(&mut rng, plan);
-    write_lines(writer, world, &mut rng, sheet, &course, plan)
+    let mut memo = Memo::new();
+    for _ in 0..plan.steps {
+        let order = draw_order(&mut rng, &course, &memo, world);
+        sheet.add_order(world, &mut memo, order, plan.answers)?;
+        flush_much(writer, sheet)?;
+    }
+    write_end(writer, world, &mut memo, sheet, plan)
 }
 
 /// Writes what was gathered.
@@ -106,32 +107,6 @@ fn flush_much<W: Write>(writer: &mut W, sheet: &mut Sheet) -> Result<(), RunFaul
     flush(writer, sheet)
 }
 
-/// Writes the lines after the comment, which was gathered.
-fn write_lines<W: Write, R: Rng>(
-    writer: &mut W,
-    world: &mut World,
-    rng: &mut R,
-    sheet: &mut Sheet,
-    course: &Course,
-    plan: &Plan,
-) -> Result<(), RunFault>
-    requires { Explored plan.now.answers world.old 0 world.old sheet.old.output.items }
-    ensures ok { OnOk result
-        (Writes plan.now.answers plan.now.finish plan.now.sweep world.old plan.now.steps
-        (W.contents writer.old) (W.contents writer.new)) }
-    ensures fault { OnErr result
-        (Stops plan.now.answers (plan.now.finish || plan.now.sweep) world.old plan.now.steps
-        (W.contents writer.old) (W.contents writer.new)) }
-{
-    let mut memo = Memo::new();
-    for _ in 0..plan.steps {
-        let order = draw_order(rng, course, &memo, world);
-        sheet.add_order(world, &mut memo, order, plan.answers)?;
-        flush_much(writer, sheet)?;
-    }
-    write_end(writer, world, &mut memo, sheet, plan)
-}
-
 /// Writes what follows the steps: what was gathered, and where the plan has them the lines that complete the migration, and a sweep.
 fn write_end<W: Write>(
     writer: &mut W,
@@ -140,16 +115,10 @@ fn write_end<W: Write>(
     sheet: &mut Sheet,
     plan: &Plan,
 ) -> Result<(), RunFault>
-    ensures ok { OnOk result ((start : Machine) (before : Option (List ℕ)) →
-        Going plan.now.answers start plan.now.steps world.old before (W.contents writer.old)
-        sheet.old.output.items
-        → Writes plan.now.answers plan.now.finish plan.now.sweep start plan.now.steps before
-        (W.contents writer.new)) }
-    ensures fault { OnErr result ((start : Machine) (before : Option (List ℕ)) →
-        Going plan.now.answers start plan.now.steps world.old before (W.contents writer.old)
-        sheet.old.output.items
-        → Stops plan.now.answers (plan.now.finish || plan.now.sweep) start plan.now.steps before
-        (W.contents writer.new)) }
+    ensures ok { OnOk result (CompletesPlan plan.now world.old (W.contents writer.old)
+        sheet.old.output.items (W.contents writer.new)) }
+    ensures fault { OnErr result (CutsPlan plan.now world.old (W.contents writer.old)
+        sheet.old.output.items (W.contents writer.new)) }
 {
     if plan.finish {
         write_whole(writer, world, memo, sheet, plan.answers)?;

@@ -11,10 +11,10 @@ use Rattle.mig_base.specs.declared.command.Reply.{Reply}
 use Rattle.mig_base.specs.declared.command.Reply.TheVariants.{Done, At, Refused}
 use Rattle.mig_base.specs.declared.message.Message.{Message}
 use Rattle.mig_base.specs.declared.message.Message.TheVariants.{Remap, Remove, Unmap}
-use Rattle.mig_base.specs.Ranges.{lesser, none_below, pages_of, rounded}
+use Rattle.foundation.specs.Ranges.{lesser, none_below, pages_of, rounded}
 use Rattle.mig_base.specs.Flat.{Memory, is_all_mapped, is_mapped, is_page_start, dontneed_reply, first_refusal, munmap_reply, reply_of}
 use Rattle.mig_base.proofs.BoundLemmas.{one_prot_some}
-use Rattle.mig_base.proofs.RangeLemmas.{none_below-from, none_below_tells}
+use Rattle.foundation.proofs.RangeLemmas.{none_below-from, none_below_tells}
 use Rattle.mig_base.proofs.ReplyLemmas.{done_passed, mmap_inside, mremap_told}
 use Rattle.mig_model.specs.Host.{Host, IsSound, memory}
 use Rattle.mig_model.specs.Space.{IsSoundSpace, Space, all_queued, call_messages, message_if}

@@ -9,11 +9,11 @@ use Rattle.std.specs.FinSet as set
 use Rattle.std.specs.FinSet.{FinSet, contains, contains-empty}
 use Rattle.std.proofs.lemmas.Bool.Decides.{nat_tests}
 use Rattle.mig_base.specs.Pages.{remove_range}
-use Rattle.mig_base.specs.Ranges.{in_range}
+use Rattle.foundation.specs.Ranges.{in_range}
 use Rattle.mig_base.specs.Sets.{without}
-use Rattle.mig_base.proofs.TestLemmas.{cond_not}
+use Rattle.foundation.proofs.TestLemmas.{cond_not}
 use Rattle.mig_base.proofs.PageLemmas.{same_pages, get-put, get-remove_range}
-use Rattle.mig_base.proofs.RangeLemmas.{ranges}
+use Rattle.foundation.proofs.RangeLemmas.{ranges}
 use Rattle.mig_base.proofs.SetLemmas.{same_members, member_inserted, member_removed, member_without}
 use Rattle.mig_model.specs.Wire.{kept_with, run_copies}
 use Rattle.page_table.specs.Views.{Pages}

@@ -8,14 +8,14 @@ use Rattle.std.specs.FinSet.{FinSet, contains, retain, len, contains-empty, cont
 use Rattle.std.proofs.lemmas.Bool.{and_from, and_parts, false≢true, cases_Bool, cases_lt, eqb-true, not-false, or_from}
 use Rattle.mig_base.specs.declared.Prot.{Prot}
 use Rattle.mig_base.specs.declared.Run.{Run as PageRun}
-use Rattle.mig_base.specs.Ranges.{count_below, in_range}
+use Rattle.foundation.specs.Ranges.{count_below, in_range}
 use Rattle.mig_base.proofs.PageLemmas.{same_pages}
-use Rattle.mig_base.proofs.RangeLemmas.{count_below-few, in_range-true, in_range_bounds}
+use Rattle.foundation.proofs.RangeLemmas.{count_below-few, in_range-true, in_range_bounds}
 use Rattle.mig_base.proofs.SetLemmas.{same_members}
 use Rattle.mig_model.specs.Faults.{is_torn}
 use Rattle.mig_model.proofs.delivery.FrameFaults.{and_none}
 use Rattle.uffd_ioctl.proofs.CallLemmas.{same_bool_by}
-use Rattle.mig_base.proofs.TestLemmas.{or_first, or_second}
+use Rattle.foundation.proofs.TestLemmas.{or_first, or_second}
 
 -- no page of the set passes the test
 abbrev pub has_none : FinSet nat_cmp → (ℕ → Bool) → Bool

@@ -66,7 +66,7 @@ impl Model for Destination {
 }
 
 impl Destination {
-    /// A destination of `cpus` idle processors, with no migration and nothing mapped. `NoCpu` comes unless there are 1 to 16 processors,
+    /// A destination of `cpus` idle processors, with no migration and nothing mapped. `NoCpu` is returned unless there are 1 to 16 processors,
     /// and then `NoMemory` if memory is refused.
     pub fn new(alloc: Global, cpus: u8) -> Result<Self, NewFault>
         ensures ok { IfOk result (λ destination. destination ≡ machine.first_destination cpus) }

@@ -10,7 +10,7 @@ ghost use Rattle.fault_handler.specs.Asking.{IsBroken, IsOwnNotice};
 
 /// A step of the destination depends on the destination alone. In any world it has the effect, and leaves the destination, that the
 /// destination's own step gives; what it sends comes after the frames in flight, or is lost while the link is down. Commands are the
-/// destination's once it has run. A Notice is the destination's own while the link is down and a migration is under way: its driver has to
+/// destination's once it has run. A Notice is the destination's own while the link is down and a migration is under way: its driver must
 /// know both.
 pub fn a_step_of_the_destination()
     ensures read { (world : World) →

@@ -13,8 +13,8 @@ use Rattle.mig_base.specs.declared.phase.SourcePhase.{SourcePhase}
 use Rattle.mig_base.specs.declared.schedule.Step.{Step}
 use Rattle.mig_base.specs.declared.schedule.Ticket.{Ticket}
 use Rattle.mig_base.specs.declared.TheConstants.{HIGH_PAGE}
-use Rattle.mig_base.specs.Ranges.{least_below}
-use Rattle.mig_base.proofs.RangeLemmas.{least_below-some}
+use Rattle.foundation.specs.Ranges.{least_below}
+use Rattle.foundation.proofs.RangeLemmas.{least_below-some}
 use Rattle.mig_base.proofs.SetLemmas.{member_removed}
 use Rattle.mig_model.specs.Log.{least_of}
 use Rattle.mig_model.specs.Migration.{World, next, outcome}

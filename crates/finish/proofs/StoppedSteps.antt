@@ -7,13 +7,13 @@ use Rattle.std.specs.FinSet.{FinSet, contains, len}
 use Rattle.std.proofs.lemmas.Bool.{false≢true, not-true, not-false}
 use Rattle.std.proofs.lemmas.Bool.Decides.{nat_tests}
 use Rattle.std.proofs.lemmas.List.{length-map}
-use Rattle.mig_base.specs.Tests.{is_empty}
+use Rattle.foundation.specs.Tests.{is_empty}
 use Rattle.mig_base.specs.declared.TheConstants.{HIGH_PAGE}
 use Rattle.mig_base.specs.declared.phase.DestPhase.{DestPhase}
 use Rattle.mig_base.specs.declared.phase.Received.{Received}
 use Rattle.mig_base.specs.declared.phase.SourcePhase.{SourcePhase}
 use Rattle.mig_base.specs.declared.schedule.Step.{Step}
-use Rattle.mig_base.proofs.RangeLemmas.{least_below_tells}
+use Rattle.foundation.proofs.RangeLemmas.{least_below_tells}
 use Rattle.mig_model.specs.Destination.{Destination, destination_answers, destination_took, is_dest_paused, received_of, recv_by, resumed_by}
 use Rattle.mig_model.specs.Guest.{is_changing}
 use Rattle.mig_model.specs.Invariant.{AreTold, Flow, are_requests_and_done, RanAt, flow_after, flow_next, flow_of}
@@ -36,8 +36,8 @@ use Rattle.mig_model.proofs.memory.Facts.{and_false, by_test, eqb-self}
 use Rattle.mig_model.proofs.invariant.FirstFrame.{comes}
 use Rattle.mig_base.proofs.SetSizes.{len-removed, len-some}
 use Rattle.mig_model.proofs.invariant.UrgentWire.{placed}
-use Rattle.frame_texts.specs.Flight.{AreFrames, HasGoodFrames}
-use Rattle.frame_texts.proofs.LengthBounds.{text_short}
+use Rattle.page_stream.specs.Flight.{AreFrames, HasGoodFrames}
+use Rattle.page_stream.proofs.LengthBounds.{text_short}
 use Rattle.finish.specs.Finishing.{IsDue, all_bytes, before_push, one_if, paused_step, reported, running_step, steps_left, stopped_by, stopped_step, delivering_step, unread, left_to_handle}
 use Rattle.finish.proofs.DueSteps.{due_by, few_next, goes_up, left_up, one_if-most, read_unread, sent_one}
 use Rattle.mig_model.proofs.steps.StepAnswers.{answers-deliver, answers-deliver_back, answers-deliver_urgent, answers-dest_read, answers-end, answers-install, answers-push}

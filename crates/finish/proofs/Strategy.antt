@@ -10,8 +10,8 @@ use Rattle.mig_model.specs.Migration.{World}
 use Rattle.mig_model.specs.NodeSteps.{is_used}
 use Rattle.mig_model.specs.Promises.{IsComplete, IsReached}
 use Rattle.mig_model.proofs.steps.EveryStep.{kept-reached}
-use Rattle.frame_texts.specs.Flight.{HasGoodFrames}
-use Rattle.frame_texts.proofs.GoodFrames.{frames_good}
+use Rattle.page_stream.specs.Flight.{HasGoodFrames}
+use Rattle.page_stream.proofs.GoodFrames.{frames_good}
 use Rattle.finish.specs.Finishing.{IsDue, down_step, finishing_step, lacks_epoch, needs_epoch, up_step}
 use Rattle.finish.proofs.DueSteps.{down_due, precopy_due, start_due}
 use Rattle.finish.proofs.StoppedSteps.{paused_due, stopped_due}

@@ -10,22 +10,22 @@ use Rattle.area_map.proofs.ViewLemmas.{get-pages_in}
 use Rattle.mig_base.specs.declared.Area.{Area}
 use Rattle.mig_base.specs.declared.Prot.{Prot}
 use Rattle.mig_base.specs.declared.TheConstants.{LOW_PAGE, HIGH_PAGE}
-use Rattle.mig_base.specs.Ranges.{in_range}
+use Rattle.foundation.specs.Ranges.{in_range}
 use Rattle.mig_base.specs.Sets.{pages_where}
 use Rattle.mig_base.proofs.PageLemmas.{same_pages}
-use Rattle.mig_base.proofs.RangeLemmas.{in_range-true, in_range_bounds}
+use Rattle.foundation.proofs.RangeLemmas.{in_range-true, in_range_bounds}
 use Rattle.mig_base.proofs.SetLemmas.{member_below, member_run, run_length-some}
-use Rattle.mig_base.proofs.TestLemmas.{and_first, and_second}
+use Rattle.foundation.proofs.TestLemmas.{and_first, and_second}
 use Rattle.mig_model.specs.Bounds.{IsPage}
 use Rattle.mig_model.specs.Ioctls.{same_protection}
 use Rattle.mig_model.specs.Lengths.{begins_area}
 use Rattle.mig_model.proofs.memory.Facts.{by_test}
 use Rattle.mig_model.proofs.memory.PageCalls.{same_prot_self}
-use Rattle.frame_texts.specs.Texts.{AreMappedBelow, list_below, area_at, areas_of}
-use Rattle.frame_texts.proofs.RunsAndAreas.{same_prot_tells, prot_in-areas_of}
+use Rattle.page_stream.specs.Texts.{AreMappedBelow, list_below, area_at, areas_of}
+use Rattle.page_stream.proofs.RunsAndAreas.{same_prot_tells, prot_in-areas_of}
 use Rattle.frame_decoder.specs.Reading.{area_next}
 use Rattle.frame_decoder.proofs.FieldLemmas.{AllFrom}
-use Rattle.frame_texts.proofs.AreasInOrder.{mapped as mapped_some}
+use Rattle.page_stream.proofs.AreasInOrder.{mapped as mapped_some}
 
 -- an area that may follow
 pub record AreaFits (state : ℕ × Option Prot) (area : Area) : Type 0 where

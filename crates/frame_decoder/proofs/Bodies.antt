@@ -10,10 +10,10 @@ use Rattle.std.proofs.lemmas.List.{append-nil, nil_from_length}
 use Rattle.mig_base.specs.declared.TheConstants.{LOW_PAGE, HIGH_PAGE, MAX_PAGES, MAX_RUN}
 use Rattle.mig_base.specs.declared.Prot.{Prot}
 use Rattle.mig_base.specs.declared.Run.{Run as PageRun}
-use Rattle.mig_base.proofs.TestLemmas.{and_first, and_second}
+use Rattle.foundation.proofs.TestLemmas.{and_first, and_second}
 use Rattle.mig_model.specs.Bounds.{AreFewPages, ArePageBytes, IsFrame, IsMapping, IsPage, IsPageBytes}
 use Rattle.mig_model.specs.Wire.{Frame}
-use Rattle.frame_texts.specs.Texts.{body_text, has_frame}
+use Rattle.page_stream.specs.Texts.{body_text, has_frame}
 use Rattle.frame_decoder.specs.declared.tag.Tag.{Tag}
 use Rattle.frame_decoder.specs.declared.tag.Tag.TheVariants as tag
 use Rattle.frame_decoder.specs.declared.version.Version.{Version}

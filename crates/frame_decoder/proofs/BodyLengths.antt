@@ -2,18 +2,19 @@
 use Rattle.std.proofs.Common.{◌≡◌, ℕ, ◌+◌, ◌-◌, ◌*◌, ◌%◌, ◌≤◌, true, ◌&&◌, eqb, leb, Option, Some, None, List, [], ◌∷◌, length, refl, ap, ◌∙◌, arith}
 use Rattle.std.proofs.lemmas.Bool.{and_from, eq-eqb, le-leb}
 use Rattle.std.proofs.lemmas.List.{length-append}
-use Rattle.mig_base.specs.declared.TheConstants.{PAGE_SIZE, LOW_PAGE, HIGH_PAGE, MAX_CPUS, MAX_RUN}
+use Rattle.foundation.specs.declared.TheConstants.{PAGE_SIZE}
+use Rattle.mig_base.specs.declared.TheConstants.{LOW_PAGE, HIGH_PAGE, MAX_CPUS, MAX_RUN}
 use Rattle.mig_base.specs.declared.command.Command.{Command}
 use Rattle.mig_base.specs.declared.command.Command.TheVariants.{Load, Store}
 use Rattle.mig_model.specs.Bounds.{AreRightAccesses}
 use Rattle.mig_model.specs.Lengths.{body_len, commands_len, runs_len}
 use Rattle.mig_model.specs.Wire.{Frame}
-use Rattle.frame_texts.specs.Texts.{body_text, header_text, tag_code}
-use Rattle.frame_texts.specs.Texts.Version.{Two}
-use Rattle.frame_texts.proofs.Encodable.{encodable}
-use Rattle.frame_texts.proofs.LengthBounds.{area_count-len, commands_len-bound, discard-bound, run_count-len}
-use Rattle.frame_texts.proofs.OneText.{text-is}
-use Rattle.frame_texts.proofs.TextLemmas.{length-text}
+use Rattle.page_stream.specs.Texts.{body_text, header_text, tag_code}
+use Rattle.page_stream.specs.Texts.Version.{Two}
+use Rattle.page_stream.proofs.Encodable.{encodable}
+use Rattle.page_stream.proofs.LengthBounds.{area_count-len, commands_len-bound, discard-bound, run_count-len}
+use Rattle.page_stream.proofs.OneText.{text-is}
+use Rattle.page_stream.proofs.TextLemmas.{length-text}
 use Rattle.frame_decoder.specs.declared.version.Version.{Version}
 use Rattle.frame_decoder.specs.Versions.{max_pages, allows, tag_of, IsFrameIn}
 use Rattle.frame_decoder.proofs.SetReading.{pages_below}

@@ -7,10 +7,10 @@ use Rattle.mig_base.specs.declared.command.Command.{Command}
 use Rattle.mig_base.specs.declared.command.Command.TheVariants.{Load, Store}
 use Rattle.mig_base.specs.declared.phase.Received.{Received}
 use Rattle.mig_base.specs.Flat.{is_width, is_aligned}
-use Rattle.mig_base.proofs.TestLemmas.{and_first, and_second}
+use Rattle.foundation.proofs.TestLemmas.{and_first, and_second}
 use Rattle.mig_model.specs.Bounds.{AreRightAccesses, IsCpuCount}
-use Rattle.frame_texts.specs.Texts.{command_text, commands_text, state_code}
-use Rattle.frame_texts.proofs.Encodable.{fits_value}
+use Rattle.page_stream.specs.Texts.{command_text, commands_text, state_code}
+use Rattle.page_stream.proofs.Encodable.{fits_value}
 use Rattle.page_stream.specs.Rules.{IsProperWait}
 use Rattle.frame_decoder.specs.declared.fault.StreamFault.{StreamFault}
 use Rattle.frame_decoder.specs.Reading.{tested, byte_at, many_at, load_at, store_at, command_at, commands_at, is_cpu_count, state_at}

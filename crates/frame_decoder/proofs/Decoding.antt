@@ -3,9 +3,9 @@ use Rattle.std.proofs.Common.{◌≡◌, ℕ, ◌≤◌, Bool, true, false, ltb,
 use Rattle.std.specs.List.{AllByRecursion}
 use Rattle.std.proofs.lemmas.Bool.{ltb-false, ltb-true}
 use Rattle.std.proofs.lemmas.List.{append-nil, length-append, nil_from_length}
-use Rattle.mig_base.proofs.TestLemmas.{some_is_none}
+use Rattle.foundation.proofs.TestLemmas.{some_is_none}
 use Rattle.mig_model.specs.Wire.{Sent}
-use Rattle.frame_texts.specs.Texts.{body_text, text}
+use Rattle.page_stream.specs.Texts.{body_text, text}
 use Rattle.frame_decoder.specs.declared.fault.StreamFault.{StreamFault}
 use Rattle.frame_decoder.specs.declared.fault.StreamFault.TheVariants as faults
 use Rattle.frame_decoder.specs.declared.version.Version.{Version}

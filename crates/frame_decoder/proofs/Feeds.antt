@@ -4,7 +4,7 @@ use Rattle.std.specs.Prelude.{IfOk}
 use Rattle.std.specs.Int.{w32, from_be_bytes}
 use Rattle.std.proofs.lemmas.Bool.{le-ltb, lt-ltb}
 use Rattle.std.proofs.lemmas.List.{length-append}
-use Rattle.mig_base.specs.declared.NoMemory.{NoMemory as OutOfMemory}
+use Rattle.foundation.specs.declared.NoMemory.{NoMemory as OutOfMemory}
 use Rattle.mig_base.specs.declared.TheConstants.{MAX_PAGES, MAX_CPUS}
 use Rattle.mig_model.specs.Wire.{Sent}
 use Rattle.frame_decoder.specs.declared.tag.Tag.{Tag}

@@ -13,12 +13,12 @@ use Rattle.mig_base.specs.declared.Run.{Run as PageRun}
 use Rattle.mig_base.specs.declared.TheConstants.{LOW_PAGE, HIGH_PAGE}
 use Rattle.mig_base.specs.PageSets.{in_runs}
 use Rattle.mig_base.specs.Pages.{set_range}
-use Rattle.mig_base.specs.Ranges.{in_range}
+use Rattle.foundation.specs.Ranges.{in_range}
 use Rattle.mig_base.proofs.PageLemmas.{get-set_range, same_pages}
-use Rattle.mig_base.proofs.RangeLemmas.{in_range_bounds}
+use Rattle.foundation.proofs.RangeLemmas.{in_range_bounds}
 use Rattle.mig_base.proofs.RunLemmas.{in_runs-push}
 use Rattle.mig_base.proofs.SetLemmas.{same_members, member_below}
-use Rattle.mig_base.proofs.TestLemmas.{all_below}
+use Rattle.foundation.proofs.TestLemmas.{all_below}
 use Rattle.mig_model.proofs.memory.Facts.{by_test}
 use Rattle.frame_decoder.specs.declared.fault.StreamFault.{StreamFault}
 use Rattle.frame_decoder.specs.declared.fault.StreamFault.TheVariants as faults

@@ -4,9 +4,9 @@ use Rattle.std.specs.Prelude.{IfOk}
 use Rattle.std.proofs.lemmas.Bool.{le-ltb}
 use Rattle.std.proofs.lemmas.List.{append-nil, length-append, length-take-le, nil_from_length, take-append-drop, take_at}
 use Rattle.mig_model.specs.Wire.{Frame, Sent}
-use Rattle.frame_texts.specs.Texts as machine
-use Rattle.frame_texts.specs.Texts.{text, body_text, header_text, has_frame, tag_code}
-use Rattle.frame_texts.proofs.OneText.{text-is}
+use Rattle.page_stream.specs.Texts as machine
+use Rattle.page_stream.specs.Texts.{text, body_text, header_text, has_frame, tag_code}
+use Rattle.page_stream.proofs.OneText.{text-is}
 use Rattle.frame_decoder.specs.declared.fault.StreamFault.{StreamFault}
 use Rattle.frame_decoder.specs.declared.version.Version.{Version}
 use Rattle.frame_decoder.specs.Headers.{Header, header_at}

@@ -2,7 +2,7 @@
 use Rattle.std.proofs.Common.{◌≡◌, ℕ, ◌+◌, ◌≤◌, List, ◌++◌, length, drop, Some, None, Ok, Err, false, ltb, refl, sym, ap, subst, ◌∙◌, arith}
 use Rattle.std.proofs.lemmas.Bool.{le-ltb}
 use Rattle.std.proofs.lemmas.List.{length-drop}
-use Rattle.frame_texts.specs.Texts.{text, body_text}
+use Rattle.page_stream.specs.Texts.{text, body_text}
 use Rattle.mig_model.specs.Lengths.{text_len}
 use Rattle.mig_model.specs.Wire.{Frame, Sent}
 use Rattle.page_stream.proofs.FrameTexts.{length-body_text}

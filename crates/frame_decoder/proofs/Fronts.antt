@@ -5,11 +5,12 @@ use Rattle.std.proofs.lemmas.Bool.{eqb-true, ltb-true, ltb-false, le-ltb, leb-tr
 use Rattle.std.proofs.lemmas.List.{length-append, length-take, length-drop, drop-drop, take-append-drop, take_at}
 use Rattle.std.proofs.lemmas.Option.{same_Some}
 use Rattle.std.proofs.lemmas.Nat.{from_be_bytes-to_be_bytes_4}
-use Rattle.mig_base.specs.declared.TheConstants.{PAGE_SIZE, LOW_PAGE, HIGH_PAGE, MAX_PAGES, MAX_CPUS, MAX_RUN}
-use Rattle.mig_base.proofs.TestLemmas.{and_first, and_second}
+use Rattle.foundation.specs.declared.TheConstants.{PAGE_SIZE}
+use Rattle.mig_base.specs.declared.TheConstants.{LOW_PAGE, HIGH_PAGE, MAX_PAGES, MAX_CPUS, MAX_RUN}
+use Rattle.foundation.proofs.TestLemmas.{and_first, and_second}
 use Rattle.mig_model.specs.Wire.{Frame}
-use Rattle.frame_texts.specs.Texts.{version_code, tag_code, body_text, header_text, text}
-use Rattle.frame_texts.proofs.OneText.{text-is}
+use Rattle.page_stream.specs.Texts.{version_code, tag_code, body_text, header_text, text}
+use Rattle.page_stream.proofs.OneText.{text-is}
 use Rattle.frame_decoder.specs.declared.tag.Tag.{Tag}
 use Rattle.frame_decoder.specs.declared.tag.Tag.TheVariants as tag
 use Rattle.frame_decoder.specs.declared.fault.StreamFault.{StreamFault}

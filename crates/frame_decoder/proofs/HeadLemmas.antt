@@ -3,7 +3,7 @@ use Rattle.std.proofs.Common.{◌≡◌, Some, subst, ℕ, zero, suc, ◌*◌, �
 use Rattle.std.specs.Int.{w32, byte_len, from_be_bytes}
 use Rattle.std.proofs.lemmas.Bool.{ltb-true, ltb-false, le-ltb, lt-ltb, ne_eqb}
 use Rattle.std.proofs.lemmas.List.{length-drop, take_all, drop-drop, drop-take}
-use Rattle.mig_base.specs.declared.TheConstants.{PAGE_SIZE}
+use Rattle.foundation.specs.declared.TheConstants.{PAGE_SIZE}
 use Rattle.mig_model.specs.Wire.{Frame}
 use Rattle.frame_decoder.specs.declared.fault.StreamFault.{StreamFault}
 use Rattle.frame_decoder.specs.declared.fault.StreamFault.TheVariants as faults

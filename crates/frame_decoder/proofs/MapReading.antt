@@ -13,12 +13,12 @@ use Rattle.mig_base.specs.declared.Prot.TheVariants.{NoAccess, Read, ReadWrite}
 use Rattle.mig_base.specs.declared.Run.{Run as PageRun}
 use Rattle.mig_base.specs.declared.TheConstants.{LOW_PAGE}
 use Rattle.mig_base.specs.Codes.{prot_number}
-use Rattle.mig_base.proofs.TestLemmas.{and_first, and_second}
+use Rattle.foundation.proofs.TestLemmas.{and_first, and_second}
 use Rattle.mig_model.specs.Bounds.{IsPage}
 use Rattle.mig_model.specs.Ioctls.{same_protection}
 use Rattle.mig_model.proofs.memory.IoctlLemmas.{same_prot-self}
-use Rattle.frame_texts.specs.Texts.{AreMappedBelow, area_text, areas_of, areas_text}
-use Rattle.frame_texts.proofs.RunsAndAreas.{same_prot_tells}
+use Rattle.page_stream.specs.Texts.{AreMappedBelow, area_text, areas_of, areas_text}
+use Rattle.page_stream.proofs.RunsAndAreas.{same_prot_tells}
 use Rattle.page_stream.proofs.AreaTexts.{areas_are, few_areas}
 use Rattle.frame_decoder.specs.declared.fault.StreamFault.{StreamFault}
 use Rattle.frame_decoder.specs.declared.version.Version.{Version}

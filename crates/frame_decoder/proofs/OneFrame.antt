@@ -2,8 +2,8 @@
 use Rattle.std.proofs.Common.{◌≡◌, ℕ, List, [], ◌++◌, length, drop, None, refl, sym, ap, subst, ◌∙◌, arith}
 use Rattle.std.proofs.lemmas.List.{append-nil, length-drop}
 use Rattle.mig_model.specs.Wire.{Sent}
-use Rattle.frame_texts.specs.Texts.{text}
-use Rattle.frame_texts.proofs.OneText.{same_text}
+use Rattle.page_stream.specs.Texts.{text}
+use Rattle.page_stream.proofs.OneText.{same_text}
 use Rattle.page_stream.specs.declared.frame.Frame.{Frame as CodeFrame}
 use Rattle.frame_decoder.specs.declared.fault.StreamFault.{StreamFault}
 use Rattle.frame_decoder.specs.declared.stream.Next.{Next}

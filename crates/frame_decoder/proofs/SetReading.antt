@@ -8,17 +8,17 @@ use Rattle.std.proofs.lemmas.Bool.{and_from, false_from_ne_true, ltb-true, leb-t
 use Rattle.mig_base.specs.declared.Run.{Run as PageRun}
 use Rattle.mig_base.specs.declared.TheConstants.{LOW_PAGE, HIGH_PAGE}
 use Rattle.mig_base.specs.PageSets.{in_runs, AreRunsFrom}
-use Rattle.mig_base.specs.Ranges.{in_range}
-use Rattle.mig_base.proofs.RangeLemmas.{in_range-true, in_range_bounds, count_below-few}
+use Rattle.foundation.specs.Ranges.{in_range}
+use Rattle.foundation.proofs.RangeLemmas.{in_range-true, in_range_bounds, count_below-few}
 use Rattle.mig_base.proofs.SetLemmas.{same_members, member_below}
-use Rattle.mig_base.proofs.TestLemmas.{and_first, and_second, all_below}
+use Rattle.foundation.proofs.TestLemmas.{and_first, and_second, all_below}
 use Rattle.mig_model.specs.Bounds.{IsPage, ArePages}
 use Rattle.mig_model.specs.Lengths.{begins_run, run_count}
 use Rattle.mig_model.proofs.memory.Facts.{either}
-use Rattle.frame_texts.specs.Texts.{AreBelow, run_text, runs_of, runs_text}
-use Rattle.frame_texts.proofs.RunsAndAreas.{member-runs_of}
-use Rattle.frame_texts.proofs.RunsInOrder.{runs_of-ordered, runs_of-only}
-use Rattle.frame_texts.proofs.TextLemmas.{length-runs_of}
+use Rattle.page_stream.specs.Texts.{AreBelow, run_text, runs_of, runs_text}
+use Rattle.page_stream.proofs.RunsAndAreas.{member-runs_of}
+use Rattle.page_stream.proofs.RunsInOrder.{runs_of-ordered, runs_of-only}
+use Rattle.page_stream.proofs.TextLemmas.{length-runs_of}
 use Rattle.frame_decoder.specs.declared.fault.StreamFault.{StreamFault}
 use Rattle.frame_decoder.specs.declared.version.Version.{Version}
 use Rattle.frame_decoder.specs.Reading.{tested, number_in, many_from, is_run, run_in, run_next, set_of, set_from, pages_at, few_pages_at}

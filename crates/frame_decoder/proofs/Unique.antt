@@ -3,10 +3,10 @@ use Rattle.std.proofs.Common.{◌≡◌, ℕ, List, [], ◌∷◌, ◌++◌, len
 use Rattle.std.specs.List.{AllByRecursion}
 use Rattle.std.proofs.lemmas.List.Concat.{flat_map-cons}
 use Rattle.mig_model.specs.Wire.{Sent}
-use Rattle.frame_texts.specs.Texts as machine
-use Rattle.frame_texts.specs.Texts.{text, body_text, IsEncodable}
-use Rattle.frame_texts.proofs.Encodable.{encodable}
-use Rattle.frame_texts.proofs.OneText.{same_text}
+use Rattle.page_stream.specs.Texts as machine
+use Rattle.page_stream.specs.Texts.{text, body_text, IsEncodable}
+use Rattle.page_stream.proofs.Encodable.{encodable}
+use Rattle.page_stream.proofs.OneText.{same_text}
 use Rattle.frame_decoder.specs.declared.fault.StreamFault.{StreamFault}
 use Rattle.frame_decoder.specs.declared.version.Version.{Version}
 use Rattle.frame_decoder.specs.declared.version.Version.TheVariants as versions

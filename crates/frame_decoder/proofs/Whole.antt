@@ -5,7 +5,7 @@ use Rattle.std.proofs.lemmas.List.{append-nil, drop_at, length-append, map-appen
 use Rattle.std.proofs.lemmas.List.Concat.{flat_map-cons, flat_map-append}
 use Rattle.mig_model.specs.Wire.{Sent}
 use Rattle.mig_model.specs.Wire.{Frame as MachineFrame}
-use Rattle.frame_texts.specs.Texts.{text}
+use Rattle.page_stream.specs.Texts.{text}
 use Rattle.page_stream.specs.declared.frame.Frame.{Frame}
 use Rattle.page_stream.specs.Frames.{frame_of}
 use Rattle.frame_decoder.specs.declared.fault.StreamFault.{StreamFault}

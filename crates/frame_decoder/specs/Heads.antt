@@ -1,6 +1,6 @@
 -- A frame at the front of some bytes, with the bytes of its pages left where they lie.
 use Rattle.std.specs.Prelude.{◌≡◌, ℕ, zero, suc, ◌+◌, ◌*◌, ◌≤◌, ◌⊎◌, Bool, true, false, List, [], ◌∷◌, length, take, drop, Option, Some, None, Result, Ok, Err}
-use Rattle.mig_base.specs.declared.TheConstants.{PAGE_SIZE}
+use Rattle.foundation.specs.declared.TheConstants.{PAGE_SIZE}
 use Rattle.mig_model.specs.Wire.{Frame}
 use Rattle.page_stream.specs.Frames.{frame_of}
 use Rattle.frame_decoder.specs.declared.fault.StreamFault.{StreamFault}

@@ -11,7 +11,8 @@ use Rattle.mig_base.specs.declared.Area.{Area}
 use Rattle.mig_base.specs.declared.Prot.{Prot}
 use Rattle.mig_base.specs.declared.Prot.TheVariants.{NoAccess, Read, ReadWrite}
 use Rattle.mig_base.specs.declared.Run.{Run as PageRun}
-use Rattle.mig_base.specs.declared.TheConstants.{PAGE_SIZE, LOW_PAGE, HIGH_PAGE, MAX_CPUS, MAX_RUN}
+use Rattle.foundation.specs.declared.TheConstants.{PAGE_SIZE}
+use Rattle.mig_base.specs.declared.TheConstants.{LOW_PAGE, HIGH_PAGE, MAX_CPUS, MAX_RUN}
 use Rattle.mig_base.specs.declared.command.Command.{Command}
 use Rattle.mig_base.specs.declared.command.Command.TheVariants.{Load, Store}
 use Rattle.mig_base.specs.declared.phase.Received.{Received}

@@ -3,7 +3,7 @@ use Rattle.std.specs.Prelude.{◌≡◌, ℕ, ◌+◌, ◌-◌, ◌^◌, ◌<◌
 use Rattle.std.specs.List.{flat_map, AllByRecursion}
 use Rattle.mig_model.specs.Lengths.{header_len}
 use Rattle.mig_model.specs.Wire.{Frame as MachineFrame, Sent}
-use Rattle.frame_texts.specs.Texts.{text, body_text}
+use Rattle.page_stream.specs.Texts.{text, body_text}
 use Rattle.page_stream.specs.declared.frame.Frame.{Frame}
 use Rattle.page_stream.specs.Frames.{frame_of}
 use Rattle.frame_decoder.specs.declared.fault.StreamFault.{StreamFault}
@@ -35,6 +35,14 @@ texts version frames = flat_map (λ sent. text (version_of version) sent.epoch s
 pub record IsTextOf (version : Version) (bytes : List ℕ) (sent : Sent) : Type 0 where
   pub whole : bytes ≡ text (version_of version) sent.epoch sent.frame
   pub fits : IsSent version sent
+
+-- the bytes are a front of the text of a frame in that version, and not the whole of it
+pub record IsFrontOfText (version : Version) (front : List ℕ) : Type 0 where
+  pub sent : Sent
+  pub rest : List ℕ
+  pub fits : IsSent version sent
+  pub whole : text (version_of version) sent.epoch sent.frame ≡ front ++ rest
+  pub short : rest ≡ [] → ⊥
 
 -- The version that is fixed
 
@@ -121,6 +129,15 @@ pub record Splits (old : Option Version) (stream : List ℕ) (frames : List Sent
   pub whole : stream ≡ read ++ unread
   pub spells : Spells old read frames new
   pub ends : LeavesHeld new unread held fault
+
+-- a stream as it is split: its frames, and what is held after them
+pub record Split : Type 0 where
+  pub frames : List Sent
+  pub held : Held
+
+-- the stream splits so
+abbrev pub SplitsAs : (old : Option Version) → (stream : List ℕ) → Split → Type 0
+SplitsAs old stream split = Splits old stream split.frames split.held.bytes split.held.fault split.held.version
 
 -- the number of bytes that a header still lacks, or once it is there its frame; 0 where a fault stands
 unfoldable pub lacks : (fixed : Option Version) → List ℕ → ℕ

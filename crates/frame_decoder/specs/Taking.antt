@@ -1,7 +1,7 @@
 -- What the decoder's private functions find at the front of some bytes.
 use Rattle.std.specs.Prelude.{◌≡◌, ℕ, ◌+◌, ◌<◌, ◌≤◌, ◌⊎◌, List, [], ◌++◌, length, take, drop, Option, Some, None, Ok}
 use Rattle.mig_model.specs.Wire.{Frame, Sent}
-use Rattle.frame_texts.specs.Texts.{text}
+use Rattle.page_stream.specs.Texts.{text}
 use Rattle.frame_decoder.specs.declared.fault.StreamFault.{StreamFault}
 use Rattle.frame_decoder.specs.declared.version.Version.{Version}
 use Rattle.frame_decoder.specs.Reading.{Front}

@@ -2,10 +2,11 @@
 use Rattle.std.specs.Prelude.{◌≡◌, ℕ, ◌+◌, ◌-◌, ◌*◌, ◌%◌, ◌≤◌, Bool, true, false, ◌&&◌, ◌==◌, nat_le, if◌then◌else◌, List, [], ◌∷◌, Option, Some, None}
 use Rattle.std.specs.FinMap as finmap
 use Rattle.std.specs.FinSet.{len}
-use Rattle.mig_base.specs.declared.TheConstants.{PAGE_SIZE, LOW_PAGE, HIGH_PAGE, MAX_PAGES, MAX_CPUS, MAX_RUN}
+use Rattle.foundation.specs.declared.TheConstants.{PAGE_SIZE}
+use Rattle.mig_base.specs.declared.TheConstants.{LOW_PAGE, HIGH_PAGE, MAX_PAGES, MAX_CPUS, MAX_RUN}
 use Rattle.mig_model.specs.Bounds.{IsFrame}
 use Rattle.mig_model.specs.Wire.{Frame}
-use Rattle.frame_texts.specs.Texts as texts
+use Rattle.page_stream.specs.Texts as texts
 use Rattle.frame_decoder.specs.declared.tag.Tag.{Tag}
 use Rattle.frame_decoder.specs.declared.tag.Tag.TheVariants as tag
 use Rattle.frame_decoder.specs.declared.version.Version.{Version}

@@ -120,7 +120,7 @@ fn read_payload(
     }
 }
 
-/// The frame that a body spells with all of its bytes. `BadField` comes if bytes are left.
+/// The frame that a body spells with all of its bytes. `BadField` is returned if bytes are left.
 #[tactic(auto, unfolding(crate::specs::Reading::body_at))]
 pub(crate) fn read_body(
     alloc: Global,

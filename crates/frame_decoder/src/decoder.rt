@@ -256,7 +256,7 @@ impl Decoder {
     /// Takes the next piece, which may be empty, and returns the frames that are whole now, each with its epoch.
     ///
     /// A fault is returned at once if the piece completes no frame before it, and by the next call otherwise; then by every later call
-    /// until [`reset`](Decoder::reset). `NoMemory` comes if an allocation fails, and never for an empty piece: it takes nothing of the
+    /// until [`reset`](Decoder::reset). `NoMemory` is returned if an allocation fails, and never for an empty piece: it takes nothing of the
     /// piece, which may be fed again.
     pub fn feed(&mut self, piece: &[u8]) -> Result<Vec<(u32, Frame)>, StreamFault>
         ensures fed { Fed self.old piece.now (feed_answer_of result) self.new }
@@ -306,7 +306,7 @@ impl Decoder {
         self.version = None;
     }
 
-    /// A decoder that returns what this one returns from here on, with memory of its own. `NoMemory` comes only if that memory is refused.
+    /// A decoder that returns what this one returns from here on, with memory of its own. `NoMemory` is returned only if that memory is refused.
     pub fn copy(&self) -> Result<Self, NoMemory>
         ensures { IfOk result (λ decoder. decoder ≡ self.now) }
     {

@@ -95,7 +95,7 @@ fn read_body_head(
 /// `None` if the bytes are less than a frame: [`lacking`](crate::lacking) says how many more it needs.
 ///
 /// It reads what a [`Decoder`](crate::Decoder) reads, and refuses what that refuses, for the same fault: `BadTag`, `BadLength` and
-/// `BadField`, each where it first stands, whatever the bytes are. `NoMemory` comes if the frame's memory is refused, and never for a Page
+/// `BadField`, each where it first stands, whatever the bytes are. `NoMemory` is returned if the frame's memory is refused, and never for a Page
 /// or a Run, which take none. A stream has one version, so the caller fixes that of the first frame for the next ones.
 pub fn read_head(
     alloc: Global,

@@ -4,28 +4,17 @@ ghost use Rattle.std.specs.Prelude.{◌≡◌, ◌++◌, ℕ, [], List, Option, 
 ghost use Rattle.std.specs.List.{AllByRecursion};
 ghost use Rattle.mig_model.specs.Bounds.{IsFrame};
 ghost use Rattle.mig_model.specs.Wire.{Frame, Sent};
-ghost use Rattle.frame_texts.specs.Texts as texts;
-ghost use Rattle.frame_decoder.specs.declared.fault.StreamFault.{StreamFault};
+ghost use Rattle.page_stream.specs.Texts as texts;
 ghost use Rattle.frame_decoder.specs.declared.version.Version.{Version};
 ghost use Rattle.frame_decoder.specs.declared.version.Version.TheVariants.{One, Two};
-ghost use Rattle.frame_decoder.specs.Versions.{IsFrameIn, version_of};
-ghost use Rattle.frame_decoder.specs.Streams.{IsSent, Held, Splits, texts as all_texts};
+ghost use Rattle.frame_decoder.specs.Versions.{IsFrameIn};
+ghost use Rattle.frame_decoder.specs.Streams.{IsFrontOfText, IsSent, Held, Split, Splits, SplitsAs, texts as all_texts};
 ghost use Rattle.frame_decoder.specs.Feeding.{fresh, Decodes, Feed, IsFeedRun, bytes_fed, all_frames};
 
 /// A stream has one reading: it determines its frames, what is held of its rest, the fault, and the version that is fixed then.
 pub fn one_reading()
-    ensures frames { (fixed : Option Version) (stream : List ℕ) (xs ys : List Sent) (r q : List ℕ)
-        (a b : Option StreamFault) (m n : Option Version) → Splits fixed stream xs r a m →
-        Splits fixed stream ys q b n → xs ≡ ys }
-    ensures held { (fixed : Option Version) (stream : List ℕ) (xs ys : List Sent) (r q : List ℕ)
-        (a b : Option StreamFault) (m n : Option Version) → Splits fixed stream xs r a m →
-        Splits fixed stream ys q b n → r ≡ q }
-    ensures fault { (fixed : Option Version) (stream : List ℕ) (xs ys : List Sent) (r q : List ℕ)
-        (a b : Option StreamFault) (m n : Option Version) → Splits fixed stream xs r a m →
-        Splits fixed stream ys q b n → a ≡ b }
-    ensures version { (fixed : Option Version) (stream : List ℕ) (xs ys : List Sent) (r q : List ℕ)
-        (a b : Option StreamFault) (m n : Option Version) → Splits fixed stream xs r a m →
-        Splits fixed stream ys q b n → m ≡ n }
+    ensures { (fixed : Option Version) (stream : List ℕ) (a b : Split) →
+        SplitsAs fixed stream a → SplitsAs fixed stream b → a ≡ b }
 {}
 
 /// However a stream is cut into pieces, a decoder returns exactly the frames at its front, all of one version, and holds less than a frame
@@ -62,8 +51,7 @@ pub fn older_frames_stand()
 pub fn texts_are_decoded()
     ensures all { (version : Version) (frames : List Sent) →
         AllByRecursion (IsSent version) frames → Decodes (all_texts version frames) frames [] }
-    ensures part { (version : Version) (frames : List Sent) (sent : Sent) (front rest : List ℕ) →
-        AllByRecursion (IsSent version) frames → IsSent version sent →
-        texts.text (version_of version) sent.epoch sent.frame ≡ front ++ rest → (rest ≡ [] → ⊥) →
+    ensures part { (version : Version) (frames : List Sent) (front : List ℕ) →
+        AllByRecursion (IsSent version) frames → IsFrontOfText version front →
         Decodes (all_texts version frames ++ front) frames front }
 {}

@@ -4,7 +4,7 @@ ghost use Rattle.std.specs.Prelude.{◌≡◌, ◌+◌, ◌≤◌, ◌++◌, ℕ
 ghost use Rattle.std.specs.Option.{IfSome, option_map};
 ghost use Rattle.mig_model.specs.Lengths.{text_len};
 ghost use Rattle.mig_model.specs.Wire.{Sent};
-ghost use Rattle.frame_texts.specs.Texts.{text};
+ghost use Rattle.page_stream.specs.Texts.{text};
 ghost use Rattle.frame_decoder.specs.Headers.{header_at};
 ghost use Rattle.frame_decoder.specs.Heads.{IsAtFront, front_by};
 ghost use Rattle.frame_decoder.specs.Reading.{front_of, next_at};

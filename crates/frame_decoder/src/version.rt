@@ -1,7 +1,7 @@
 //! The versions of a stream.
 
 ghost use Rattle.std.specs.Prelude.{◌≡◌};
-ghost use Rattle.frame_texts.specs.Texts as texts;
+ghost use Rattle.page_stream.specs.Texts as texts;
 ghost use Rattle.frame_decoder.specs.Versions as versions;
 
 use mig_base::MAX_PAGES;

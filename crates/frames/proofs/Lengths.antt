@@ -7,8 +7,8 @@ use Rattle.std.proofs.lemmas.List.Concat.{flat_map-cons}
 use Rattle.std.proofs.lemmas.List.Sums.{sum_by-cons}
 use Rattle.mig_model.specs.Lengths.{text_len}
 use Rattle.mig_model.specs.Wire.{Sent}
-use Rattle.frame_texts.specs.Texts.{text}
-use Rattle.frame_texts.proofs.TextLemmas.{length-text}
+use Rattle.page_stream.specs.Texts.{text}
+use Rattle.page_stream.proofs.TextLemmas.{length-text}
 use Rattle.frame_decoder.specs.declared.fault.StreamFault.{StreamFault}
 use Rattle.frame_decoder.specs.declared.version.Version.{Version}
 use Rattle.frame_decoder.specs.Feeding.{Fed}

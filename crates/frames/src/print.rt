@@ -20,7 +20,7 @@ fn name_of(fault: TakeFault) -> &'static str
     }
 }
 
-/// Appends the line of a frame that is refused, with its line feed, to a text. `NoMemory` comes if the line has no room, and for a frame
+/// Appends the line of a frame that is refused, with its line feed, to a text. `NoMemory` is returned if the line has no room, and for a frame
 /// that was refused for lack of memory, which has no line.
 pub(crate) fn print_refusal(text: &mut String, fault: TakeFault) -> Result<(), NoMemory>
     ensures line { OnOk result (string_bytes text.new ≡

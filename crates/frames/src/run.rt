@@ -1,7 +1,8 @@
 //! Reading a stream of frames from a reader, and writing a line for each frame to a writer.
 
-ghost use Rattle.std.specs.Prelude.{◌≡◌, ◌≤◌, [], IfOk, IfErr, IfSome};
+ghost use Rattle.std.specs.Prelude.{◌≡◌, ◌≤◌, [], IfOk, IfSome};
 ghost use Rattle.mig_model.specs.Destination.{first_destination};
+ghost use Rattle.engine.specs.Lines.{FaultsAs};
 ghost use Rattle.frame_decoder.specs.Feeding.{fresh};
 ghost use Rattle.frames.specs.Endings.{IsWhole, FramesStop};
 ghost use Rattle.frames.specs.Parts.{IsCounted};
@@ -32,10 +33,8 @@ pub fn run_frames<R: Read, W: Write>(
     ensures ok { IfOk result (λ refused. IfSome (R.remaining reader.old) (λ input.
         IsWhole (first_destination cpus) input refused (W.contents writer.old)
         (W.contents writer.new))) }
-    ensures fault { IfErr result (λ fault. IfSome (R.remaining reader.old) (λ input.
-        FramesStop (first_destination cpus) input (R.remaining reader.new) fault
-        (W.contents writer.old)
-        (W.contents writer.new))) }
+    ensures fault { FaultsAs result (FramesStop (first_destination cpus)) (R.remaining reader.old)
+        (R.remaining reader.new) (W.contents writer.old) (W.contents writer.new) }
 {
     let mut frames = FrameReader::new(alloc, cpus)?;
     read_frames(reader, writer, &mut frames)
@@ -54,9 +53,9 @@ fn read_frames<R: Read, W: Write>(
     ensures ok { IfOk result (λ refused. IfSome (R.remaining reader.old) (λ input.
         IsWhole frames.old.taker.destination input refused (W.contents writer.old)
         (W.contents writer.new))) }
-    ensures fault { IfErr result (λ fault. IfSome (R.remaining reader.old) (λ input.
-        FramesStop frames.old.taker.destination input (R.remaining reader.new) fault
-        (W.contents writer.old) (W.contents writer.new))) }
+    ensures fault { FaultsAs result (FramesStop frames.old.taker.destination)
+        (R.remaining reader.old) (R.remaining reader.new) (W.contents writer.old)
+        (W.contents writer.new) }
 {
     let mut buffer = [0u8; PIECE];
     for _ in 0..u32::MAX {

@@ -69,7 +69,7 @@ pub(crate) struct FrameTaker {
 }
 
 impl FrameTaker {
-    /// A new destination of `cpus` processors, without lines. `NoMemory` comes if it cannot be made.
+    /// A new destination of `cpus` processors, without lines. `NoMemory` is returned if it cannot be made.
     pub(crate) fn new(alloc: Global, cpus: u8) -> Result<FrameTaker, FramesFault>
         requires low { 1 ≤ cpus }
         requires high { cpus ≤ 16 }

@@ -1,10 +1,8 @@
-pub mod Bytes
 pub mod Commands
 pub mod Cuts
 pub mod Entries
 pub mod Keywords
 pub mod Meaning
-pub mod Numbers
 pub mod Orders
 pub mod Printing
 pub mod Spaces

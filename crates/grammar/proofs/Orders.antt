@@ -3,7 +3,8 @@ use Rattle.std.proofs.Common.{◌≡◌, ℕ, ◌-◌, ◌*◌, ◌/◌, ◌%◌
 use Rattle.std.proofs.lemmas.Bool.{lt-ltb, eq-eqb}
 use Rattle.std.proofs.lemmas.Bool.Decides.{nat_tests}
 use Rattle.std.specs.Prelude.{IfSome, IfNone}
-use Rattle.mig_base.specs.declared.TheConstants.{PAGE_SIZE, HIGH, HIGH_PAGE, MAX_RUN}
+use Rattle.foundation.specs.declared.TheConstants.{PAGE_SIZE}
+use Rattle.mig_base.specs.declared.TheConstants.{HIGH, HIGH_PAGE, MAX_RUN}
 use Rattle.mig_base.specs.declared.schedule.Step.{Step}
 use Rattle.mig_base.specs.declared.schedule.Step.TheVariants as step
 use Rattle.mig_base.specs.declared.schedule.Side.TheVariants as side

@@ -1,5 +1,5 @@
 -- What the words of a text are, space by space.
-use Rattle.std.proofs.Common.{◌≡◌, ◌≢◌, ℕ, ◌<◌, ◌≤◌, false, List, [], ◌∷◌, ◌++◌, length, filter, eqb, ltb, refl, sym, ap, ◌∙◌, arith, Some, None, suc, take, drop, length-append}
+use Rattle.std.proofs.Common.{◌≡◌, ◌≢◌, ℕ, ◌<◌, ◌≤◌, false, List, [], ◌∷◌, ◌++◌, length, filter, eqb, ltb, refl, sym, ap, ◌∙◌, arith, Some, None, ◌+◌, take, drop, length-append}
 use Rattle.std.specs.Prelude.{slice_get}
 use Rattle.std.specs.List.{slice_split, AllByRecursion}
 use Rattle.std.proofs.lemmas.Bool.{lt-ltb}
@@ -8,8 +8,9 @@ use Rattle.std.proofs.lemmas.List.Splits.{slice_split_at, slice_split_none}
 use Rattle.std.proofs.lemmas.Bool.Decides.{nat_tests}
 use Rattle.std.proofs.lemmas.List.{take-append-drop}
 use Rattle.memchr.specs.Find.{IsFirstByte, is_byte}
-use Rattle.grammar.proofs.Bytes.{none_found, found_before, found_at}
-use Rattle.grammar.specs.Words.{HasNone, words_of, FirstWord}
+use Rattle.words.proofs.Bytes.{all_others, others_before, none_of, found_at}
+use Rattle.grammar.specs.Words.{words_of, FirstWord}
+use Rattle.words.specs.Words.{HasNone}
 
 not_space : (b : ℕ) → b ≢ 32 → eqb b 32 ≡ false
 not_space b ne = grind (arith, nat_tests)
@@ -45,11 +46,11 @@ one_word text rest (b ∷ bs) behind after same shorter whole space none front =
 pub first_word : (text rest : List ℕ) (n : ℕ) → words_of rest ≡ words_of text → length rest ≤ length text → IsFirstByte (is_byte 32) rest (Some n) → slice_get rest 0 ≢ Some 32
     → FirstWord text (take n rest) (drop n rest)
 first_word text rest n same shorter found front =
-    one_word text rest (take n rest) (drop n rest) (drop (suc n) rest) same shorter (sym (take-append-drop n rest)) (found_at 32 rest n found) (found_before 32 rest n found) front
+    one_word text rest (take n rest) (drop n rest) (drop (n + 1) rest) same shorter (sym (take-append-drop n rest)) (found_at 32 rest n found) (none_of 32 (take n rest) (others_before 32 rest n found)) front
 
 -- the last word of a text
 pub last_word : (text rest : List ℕ) → words_of rest ≡ words_of text → length rest ≤ length text → 0 < length rest → IsFirstByte (is_byte 32) rest None → FirstWord text rest []
 last_word text rest same shorter some none = record {
-  words = sym same ∙ words_one rest some (none_found 32 rest none);
+  words = sym same ∙ words_one rest some (none_of 32 rest (all_others 32 rest none));
   shorter = omega (arith, shorter, some);
 }

@@ -9,7 +9,7 @@ use Rattle.std.proofs.lemmas.Bool.Decides.{nat_tests}
 use Rattle.std.proofs.lemmas.Fmt.{decimal_is_IsNumeral, digits_is_IsNumeral, length-decimal-le}
 use borrow.Author.Tests.{ltb-true}
 use Rattle.mig_base.specs.Texts.{hexadecimal}
-use Rattle.mig_base.proofs.TestLemmas.{and_first, and_second}
+use Rattle.foundation.proofs.TestLemmas.{and_first, and_second}
 use Rattle.grammar.specs.declared.keyword.Keyword.{Keyword}
 use Rattle.grammar.specs.declared.keyword.Keyword.TheVariants as key
 use Rattle.grammar.specs.declared.line.Language.{Language}
@@ -18,7 +18,8 @@ use Rattle.grammar.specs.declared.line.Line.{Line}
 use Rattle.grammar.specs.declared.line.Line.TheVariants.{Skipped}
 use Rattle.grammar.specs.declared.token.Token.{Token}
 use Rattle.grammar.specs.declared.token.Token.TheVariants.{Key, Number}
-use Rattle.grammar.specs.Words.{HasNone, words_of, IsNumber, keyword_text, IsToken, AreTokens}
+use Rattle.grammar.specs.Words.{words_of, keyword_text, IsToken, AreTokens}
+use Rattle.words.specs.Words.{HasNone, IsNumber}
 use Rattle.grammar.specs.Spelling.{IsNothing, Spells}
 use Rattle.grammar.specs.Lines.{IsLine}
 use Rattle.grammar.proofs.Spaces.{words_one, words_more}

@@ -3,7 +3,7 @@ use Rattle.std.specs.Prelude.{◌≡◌, ℕ, ◌<◌, ◌≤◌, ◌⊎◌, Lis
 use Rattle.std.specs.Str.Lines.{strip_carriage_return}
 use Rattle.grammar.specs.declared.line.Language.{Language}
 use Rattle.grammar.specs.declared.line.Line.{Line}
-use Rattle.grammar.specs.Words.{HasNone}
+use Rattle.words.specs.Words.{HasNone}
 use Rattle.grammar.specs.Spelling.{Spells}
 
 -- no byte is a line feed

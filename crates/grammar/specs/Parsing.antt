@@ -13,7 +13,8 @@ use Rattle.mig_base.specs.declared.command.Reply.TheVariants.{Value, Done, At, S
 use Rattle.mig_base.specs.declared.command.Entry.{Entry}
 use Rattle.mig_base.specs.declared.schedule.Step.TheVariants as step
 use Rattle.mig_base.specs.declared.schedule.Side.TheVariants as side
-use Rattle.mig_base.specs.declared.TheConstants.{PAGE_SIZE, HIGH, MAX_RUN}
+use Rattle.foundation.specs.declared.TheConstants.{PAGE_SIZE}
+use Rattle.mig_base.specs.declared.TheConstants.{HIGH, MAX_RUN}
 use Rattle.grammar.specs.declared.order.ForwardWire.{ForwardWire}
 use Rattle.grammar.specs.declared.order.ForwardWire.TheVariants.{Main, Urgent}
 use Rattle.grammar.specs.declared.order.Order.{Order}

@@ -2,7 +2,7 @@
 use Rattle.std.specs.Prelude.{ℕ, List, [], ◌∷◌, ◌++◌, ◌-◌, ◌*◌, ◌^◌, ◌==◌, if◌then◌else◌, codes, Bool, false, true, Option, Some, None}
 use Rattle.std.specs.Fmt.{decimal}
 use Rattle.mig_base.specs.Texts.{hexadecimal, reply_text, side_text}
-use Rattle.mig_base.specs.declared.TheConstants.{PAGE_SIZE}
+use Rattle.foundation.specs.declared.TheConstants.{PAGE_SIZE}
 use Rattle.mig_base.specs.declared.Prot.{Prot}
 use Rattle.mig_base.specs.declared.Prot.TheVariants.{NoAccess, Read, ReadWrite}
 use Rattle.mig_base.specs.declared.command.Place.{Place}

@@ -1,30 +1,15 @@
 -- The words of a line, and the tokens for which they stand.
-use Rattle.std.specs.Prelude.{◌≡◌, ◌≢◌, ℕ, ◌<◌, ◌≤◌, ◌^◌, ◌⊎◌, List, [], ◌∷◌, length, filter, nat_lt, ◌==◌, codes}
-use Rattle.std.specs.List.{slice_split, AllByRecursion}
-use Rattle.std.specs.Str.Parse.{AllDigits, digits_value}
+use Rattle.std.specs.Prelude.{◌≡◌, ℕ, ◌<◌, List, ◌∷◌, length, filter, nat_lt, ◌==◌, codes}
+use Rattle.std.specs.List.{slice_split}
+use Rattle.words.specs.Words.{IsNumber, AreEach}
 use Rattle.grammar.specs.declared.keyword.Keyword.{Keyword}
 use Rattle.grammar.specs.declared.keyword.Keyword.TheVariants as key
 use Rattle.grammar.specs.declared.token.Token.{Token}
 use Rattle.grammar.specs.declared.token.Token.TheVariants.{Key, Number}
 
--- no byte of the text is this one
-abbrev pub HasNone : ℕ → List ℕ → Type 0
-HasNone byte text = AllByRecursion (λ b. b ≢ byte) text
-
 -- the parts between the spaces that are not empty
 abbrev pub words_of : List ℕ → List (List ℕ)
 words_of text = filter (λ word. nat_lt 0 (length word)) (slice_split (λ b. b == 32) text)
-
--- 1 to `most` digits in the radix, of this value
-pub record Digits (radix most : ℕ) (text : List ℕ) (n : ℕ) : Type 0 where
-  pub some : 0 < length text
-  pub few : length text ≤ most
-  pub each : AllDigits radix text
-  pub value : digits_value radix text ≡ n
-
--- a number below 2^64: 1 to 20 decimal digits, or 0x and 1 to 16 hexadecimal digits
-abbrev pub IsNumber : List ℕ → ℕ → Type 0
-IsNumber word n = (n < 2 ^ 64) × (Digits 10 20 word n ⊎ ((text : List ℕ) × (word ≡ 48 ∷ 120 ∷ text) × Digits 16 16 text n))
 
 -- how a keyword is written
 abbrev pub keyword_text : Keyword → List ℕ
@@ -90,10 +75,7 @@ IsToken (Number n) word = IsNumber word n
 
 -- each word stands for the token in its place
 abbrev pub AreTokens : List Token → List (List ℕ) → Type 0
-AreTokens [] [] = Unit {0}
-AreTokens [] (word ∷ words) = ⊥
-AreTokens (token ∷ tokens) [] = ⊥
-AreTokens (token ∷ tokens) (word ∷ words) = IsToken token word × AreTokens tokens words
+AreTokens tokens words = AreEach IsToken tokens words
 
 -- the first word of a text, and what comes after it
 pub record FirstWord (text word rest : List ℕ) : Type 0 where

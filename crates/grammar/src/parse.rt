@@ -22,7 +22,7 @@ fn is_nothing(text: &[u8]) -> bool
 }
 
 /// Reads the text of a line, without its line feed, in a language: `None` if it is not a line of it. The tokens are replaced; they only
-/// keep their room from line to line. `NoMemory` comes if room for tokens is refused.
+/// keep their room from line to line. `NoMemory` is returned if room for tokens is refused.
 pub fn parse(
     language: Language,
     tokens: &mut Vec<Token>,

@@ -32,7 +32,7 @@ fn place_of(tokens: &[Token]) -> Option<Place>
     }
 }
 
-/// Whether a mapping may move, and its target if it has to go there.
+/// Whether a mapping may move, and its target if it must go there.
 #[tactic(auto, unfolding(crate::specs::Parsing::target_from))]
 fn target_of(tokens: &[Token]) -> Option<(bool, Option<Addr>)>
     ensures { result ≡ target_from tokens.now }

@@ -93,7 +93,7 @@ fn entry_of(tokens: &[Token]) -> Option<Entry>
     }
 }
 
-/// The entry that the words of a text spell, if any. The tokens are replaced. `NoMemory` comes if room for tokens is refused.
+/// The entry that the words of a text spell, if any. The tokens are replaced. `NoMemory` is returned if room for tokens is refused.
 pub fn entry_in(tokens: &mut Vec<Token>, text: &[u8]) -> Result<Option<Entry>, NoMemory>
     ensures found { IfOk result (λ found.
         IfSome found (λ entry. SpellsEntry (words_of text.now) entry)) }

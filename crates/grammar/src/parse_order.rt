@@ -199,7 +199,7 @@ fn order_of(tokens: &[Token]) -> Option<Order>
     }
 }
 
-/// The order that the words of a text spell, if any. The tokens are replaced. `NoMemory` comes if room for tokens is refused.
+/// The order that the words of a text spell, if any. The tokens are replaced. `NoMemory` is returned if room for tokens is refused.
 pub fn order_in(tokens: &mut Vec<Token>, text: &[u8]) -> Result<Option<Order>, NoMemory>
     ensures found { IfOk result (λ found.
         IfSome found (λ order. SpellsOrder (words_of text.now) order)) }

@@ -1,51 +1,20 @@
 //! The words of a line, and the tokens for which they stand.
 
-ghost use Rattle.std.specs.Prelude.{◌≡◌, ◌≢◌, ◌+◌, ◌<◌, ◌≤◌, ◌^◌, ◌++◌, ℕ, List, [], ◌∷◌, Some, length, slice_get, IsTrue, ◌↔◌, IfOk, IfSome, IfNone};
+ghost use Rattle.std.specs.Prelude.{◌≡◌, ◌≢◌, ◌<◌, ◌≤◌, List, [], Some, length, slice_get, IfOk, IfSome, IfNone};
 ghost use Rattle.std.specs.Bool.{OnTrue, OnFalse};
-ghost use Rattle.std.specs.Option.{SomeIff};
-ghost use Rattle.std.specs.Str.Parse.{AllDigits, digits_value};
 ghost use Rattle.grammar.specs.declared.token.Token.{Token as TokenOf};
-ghost use Rattle.grammar.specs.Words.{words_of, HasNone, IsNumber, IsToken, AreTokens, FirstWord};
+ghost use Rattle.grammar.specs.Words.{words_of, IsToken, AreTokens, FirstWord};
 
 use crate::keyword::Keyword;
 use memchr::memchr;
 use mig_base::NoMemory;
+use words::number;
 
 /// A token: what a word of a line stands for.
 #[derive(Clone, Copy, Debug, PartialEq, Eq)]
 pub enum Token {
     Key(Keyword),
     Number(u64),
-}
-
-/// The number that digits in a radix write, if it is below 2^64.
-fn digits(text: &[u8], radix: u32) -> Option<u64>
-    requires low { 2 ≤ radix }
-    requires high { radix ≤ 36 }
-    ensures { SomeIff result (AllDigits radix text.now ×
-        (digits_value radix text.now < 2 ^ 64)) (digits_value radix text.now) }
-{
-    let mut value: u64 = 0;
-    for byte in text {
-        let digit = char::from(*byte).to_digit(radix)?;
-        value = value
-            .checked_mul(u64::from(radix))?
-            .checked_add(u64::from(digit))?;
-    }
-    Some(value)
-}
-
-/// The number that a word spells.
-fn number(word: &[u8]) -> Option<u64>
-    ensures found { IfSome result (λ n. IsNumber word.now n) }
-    ensures none { IfNone result ((n : ℕ) → IsNumber word.now n → ⊥) }
-{
-    match word {
-        [b'0', b'x', text @ ..] if !text.is_empty() && text.len() <= 16 => digits(text, 16),
-        [b'0', b'x', ..] => None,
-        _ if word.is_empty() || word.len() > 20 => None,
-        _ => digits(word, 10),
-    }
 }
 
 fn token_of(word: &[u8]) -> Option<Token>

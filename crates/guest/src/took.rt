@@ -21,7 +21,7 @@ use vcpu::Cpus;
 pub enum Took {
     /// The command is answered.
     Answer(Reply),
-    /// The processor has to sleep on the page of the command.
+    /// The processor must sleep on the page of the command.
     Sleep,
     /// The map call continues until `left` messages have been read.
     Call { reply: Reply, left: u8 },

@@ -81,7 +81,7 @@ struct Node {
     cpus: Cpus,
 }
 
-/// What a refused call has to leave.
+/// What a refused call must leave.
 #[derive(Clone, Copy, PartialEq, Eq)]
 struct Picture {
     cpus: [Result<CpuState, Refusal>; 3],

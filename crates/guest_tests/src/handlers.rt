@@ -167,7 +167,7 @@ fn make(
     }
 }
 
-/// What a refused call has to leave.
+/// What a refused call must leave.
 #[derive(Clone, Copy, PartialEq, Eq)]
 struct Picture {
     cpus: [Result<CpuState, Refusal>; 3],

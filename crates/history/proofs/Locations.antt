@@ -8,9 +8,9 @@ use Rattle.mig_base.specs.declared.command.Errno.TheVariants.{Einval, Enomem}
 use Rattle.mig_base.specs.declared.command.Place.TheVariants.{Fixed}
 use Rattle.mig_base.specs.declared.command.Command.TheVariants as command
 use Rattle.mig_base.specs.declared.command.Reply.TheVariants.{Value, Done, At, Segv, BadAccess, Refused}
-use Rattle.mig_base.specs.Ranges.{in_range, rounded}
+use Rattle.foundation.specs.Ranges.{in_range, rounded}
 use Rattle.mig_base.specs.Flat.{Memory, Cell, byte_of, written, write, zeros_with, is_mapped, is_all_mapped, is_aligned, is_page_start, overlaps, number_at, access_reply, allows_load, allows_store, reply_of, after, changed, first_refusal, IsRunFrom, memory_from}
-use Rattle.mig_base.proofs.RangeLemmas.{in_range_bounds, in_range-true, in_range-out, in_range_tells, none_below_tells}
+use Rattle.foundation.proofs.RangeLemmas.{in_range_bounds, in_range-true, in_range-out, in_range_tells, none_below_tells}
 use Rattle.mig_base.proofs.ReplyLemmas.{mmap_inside, munmap_whole, dontneed_done}
 use Rattle.mig_model.proofs.memory.NumberLemmas.{number_at-zeros, aligned_inside}
 use Rattle.history.specs.declared.operation.Action.{Action}

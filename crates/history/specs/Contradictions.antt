@@ -1,7 +1,7 @@
 -- How operations contradict each other: what makes an order of all of them impossible. A location is an address with a width, in bytes.
 use Rattle.std.specs.Prelude.{◌≡◌, ◌≢◌, ℕ, ◌<◌, ◌≤◌, ◌⊎◌, ◌==◌, not, Bool, true, Option, Some, None, IfSome, List, [], ◌∷◌, length, slice_index_or, if◌then◌else◌}
 use Rattle.std.specs.List.{All, Contains}
-use Rattle.mig_base.specs.Ranges.{in_range, rounded}
+use Rattle.foundation.specs.Ranges.{in_range, rounded}
 use Rattle.mig_base.specs.Flat.{is_aligned, overlaps}
 use Rattle.history.specs.declared.operation.TheConstants.{NEVER}
 use Rattle.history.specs.declared.operation.Clock.{Clock}

@@ -2,7 +2,7 @@
 //!
 //! An [`Operation`] has the interval in which it took effect. `specs/Histories.antt` says when an order of all operations explains a history,
 //! over the flat memory of `mig_base`, and `specs/Contradictions.antt` why there may be none: [`refutes`] checks a [`Contradiction`].
-//! [`agrees`] and [`gave_ticks`] check what an order and a clock have to meet, [`is_made_before`] and [`is_turned`] two operations and one.
+//! [`agrees`] and [`gave_ticks`] check what an order and a clock must meet, [`is_made_before`] and [`is_turned`] two operations and one.
 //!
 //! The crate searches for nothing: what it checks is proposed by its caller. It reads no text and prints none.
 #![tactic(auto)]

@@ -2,7 +2,7 @@
 
 ghost use Rattle.std.specs.Prelude.{◌≡◌, ◌≢◌, Some, None, true, IfSome};
 ghost use Rattle.std.specs.Bool.{OnTrue};
-ghost use Rattle.mig_base.specs.Ranges.{in_range, rounded};
+ghost use Rattle.foundation.specs.Ranges.{in_range, rounded};
 ghost use Rattle.history.specs.Contradictions as contradictions;
 ghost use Rattle.history.specs.Contradictions.{Disturbs};
 

@@ -52,7 +52,7 @@ fn is_apart(list: &mut [u64]) -> bool
     is_increasing(list)
 }
 
-/// Whether the clock gave its ticks as it should: a counter gives none twice. `NoMemory` comes if room for the ticks is refused.
+/// Whether the clock gave its ticks as it should: a counter gives none twice. `NoMemory` is returned if room for the ticks is refused.
 pub fn gave_ticks(alloc: Global, clock: Clock, operations: &[Operation]) -> Result<bool, NoMemory>
     ensures { IfOk result (λ gave. OnTrue gave (GaveTicks clock operations.now)) }
 {

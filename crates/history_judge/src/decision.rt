@@ -69,7 +69,7 @@ fn decide_wrong(
 }
 
 /// Decides on a history: puts the operations into an order that explains it, or leaves them as they are and names contradictions in it.
-/// `NoMemory` comes if room is refused.
+/// `NoMemory` is returned if room is refused.
 pub fn decide(
     alloc: Global,
     clock: Clock,

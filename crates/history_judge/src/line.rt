@@ -217,7 +217,7 @@ fn clock_in(text: &[u8]) -> Result<HistoryLine, Wrong> {
     Err(Wrong::NoClock)
 }
 
-/// Reads the text of a line, without its line feed. `NoMemory` comes if room is refused.
+/// Reads the text of a line, without its line feed. `NoMemory` is returned if room is refused.
 pub(crate) fn read_line(
     room: &mut Room,
     text: &[u8],

@@ -42,7 +42,7 @@ fn arrange(operations: &mut [Operation], order: &mut [u32])
 
 /// Puts the operations of a history into the order in which `order` lists their indices, and says whether that order explains the history:
 /// it has all operations, agrees with each interval and each thread, and in it each reply is that of one flat memory. If not, another order
-/// may explain it. The indices are replaced. `NoMemory` comes if room for the pages is refused.
+/// may explain it. The indices are replaced. `NoMemory` is returned if room for the pages is refused.
 pub fn confirm_order(
     alloc: Global,
     operations: &mut [Operation],

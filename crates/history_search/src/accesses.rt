@@ -27,7 +27,7 @@ pub(crate) struct Call {
     pub(crate) overlaps: bool,
 }
 
-/// A number that has to fit, or the greatest.
+/// A number that must fit, or the greatest.
 pub(crate) fn short(number: usize) -> u32 {
     u32::try_from(number).unwrap_or(u32::MAX)
 }

@@ -3,7 +3,7 @@
 //! that led nowhere are kept (Lowe, Testing for linearizability, 2017).
 
 use crate::accesses::short;
-use crate::chains::Placed;
+use crate::chains::Placement;
 use mig_base::NoMemory;
 
 /// What is at a location that is not mapped.
@@ -11,7 +11,7 @@ pub(crate) const NOTHING: u32 = u32::MAX;
 
 /// What an operation does. Locations are numbered, and so are the values at each.
 #[derive(Clone, Copy)]
-pub(crate) enum Deed {
+pub(crate) enum Effect {
     Load { at: u32, found: u32 },
     Store { at: u32, left: u32 },
     Swap { at: u32, found: u32, left: u32 },
@@ -24,7 +24,7 @@ pub(crate) enum Deed {
 pub(crate) struct Step {
     pub(crate) begin: u64,
     pub(crate) end: u64,
-    pub(crate) deed: Deed,
+    pub(crate) effect: Effect,
     pub(crate) index: u32,
     pub(crate) line: u32,
     pub(crate) thread: u8,
@@ -141,12 +141,12 @@ impl Board {
     }
 
     /// Whether an operation returns here what it returned, and no later one can then not.
-    fn fits(&self, deed: Deed) -> bool {
-        match deed {
-            Deed::Load { at, found } => self.held_at(at) == found,
-            Deed::Store { at, .. } => self.held_at(at) != NOTHING && !self.is_needed(at, 0),
-            Deed::Swap { at, found, .. } => self.held_at(at) == found && !self.is_needed(at, 1),
-            Deed::Clear { from, to, .. } => !self.is_any_needed(from, to),
+    fn fits(&self, effect: Effect) -> bool {
+        match effect {
+            Effect::Load { at, found } => self.held_at(at) == found,
+            Effect::Store { at, .. } => self.held_at(at) != NOTHING && !self.is_needed(at, 0),
+            Effect::Swap { at, found, .. } => self.held_at(at) == found && !self.is_needed(at, 1),
+            Effect::Clear { from, to, .. } => !self.is_any_needed(from, to),
         }
     }
 
@@ -175,13 +175,13 @@ impl Board {
     /// The choice of a lane, if its next step began by `limit` and fits.
     fn choice_of(&self, number: usize, lane: Lane, limit: u64) -> Option<Choice> {
         let step = self.next_in(lane)?;
-        if step.begin > limit || !self.fits(step.deed) {
+        if step.begin > limit || !self.fits(step.effect) {
             return None;
         }
         Some(Choice {
             end: step.end,
             lane: number,
-            is_free: matches!(step.deed, Deed::Load { .. }),
+            is_free: matches!(step.effect, Effect::Load { .. }),
         })
     }
 
@@ -241,15 +241,15 @@ impl Board {
     }
 
     /// Counts what an operation finds and leaves.
-    fn count_deed(&mut self, deed: Deed, way: Way) {
-        match deed {
-            Deed::Load { found, .. } => self.count_find(found, way),
-            Deed::Store { left, .. } => self.count_leave(left, way),
-            Deed::Swap { found, left, .. } => {
+    fn count_effect(&mut self, effect: Effect, way: Way) {
+        match effect {
+            Effect::Load { found, .. } => self.count_find(found, way),
+            Effect::Store { left, .. } => self.count_leave(left, way),
+            Effect::Swap { found, left, .. } => {
                 self.count_find(found, way);
                 self.count_leave(left, way);
             }
-            Deed::Clear { from, to, unmaps } => {
+            Effect::Clear { from, to, unmaps } => {
                 if !unmaps {
                     self.count_clear(from, to, way);
                 }
@@ -261,8 +261,8 @@ impl Board {
     pub(crate) fn count_all(&mut self) {
         for number in 0..self.steps.len() {
             if let Some(step) = self.steps.get(number) {
-                let deed = step.deed;
-                self.count_deed(deed, Way::On);
+                let effect = step.effect;
+                self.count_effect(effect, Way::On);
             }
         }
     }
@@ -298,18 +298,18 @@ impl Board {
         let Some(step) = self.steps.get(number) else {
             return Ok(());
         };
-        let deed = step.deed;
+        let effect = step.effect;
         self.moves.push(Move {
             choice,
             changes: self.changes.len(),
             step: number,
         })?;
         self.move_lane(choice.lane, Way::On);
-        self.count_deed(deed, Way::Back);
-        match deed {
-            Deed::Load { .. } => Ok(()),
-            Deed::Store { at, left } | Deed::Swap { at, left, .. } => self.change(at, left),
-            Deed::Clear { from, to, unmaps } => self.clear(from, to, unmaps),
+        self.count_effect(effect, Way::Back);
+        match effect {
+            Effect::Load { .. } => Ok(()),
+            Effect::Store { at, left } | Effect::Swap { at, left, .. } => self.change(at, left),
+            Effect::Clear { from, to, unmaps } => self.clear(from, to, unmaps),
         }
     }
 
@@ -329,8 +329,8 @@ impl Board {
             self.put_back(last.changes);
             self.move_lane(last.choice.lane, Way::Back);
             if let Some(step) = self.steps.get(last.step) {
-                let deed = step.deed;
-                self.count_deed(deed, Way::On);
+                let effect = step.effect;
+                self.count_effect(effect, Way::On);
             }
             if !last.choice.is_free {
                 return Some(last.choice);
@@ -382,13 +382,13 @@ impl Board {
     }
 
     /// Adds a place for each step that was made: the last tick so far at which one of them began.
-    pub(crate) fn place_moves(&self, placed: &mut Vec<Placed>) -> Result<(), NoMemory> {
+    pub(crate) fn place_moves(&self, placed: &mut Vec<Placement>) -> Result<(), NoMemory> {
         let mut place = 0;
         for made in &self.moves {
             if let Some(step) = self.steps.get(made.step) {
                 place = step.begin.max(place);
                 if step.is_placed {
-                    placed.push(Placed {
+                    placed.push(Placement {
                         place,
                         index: step.index,
                     })?;

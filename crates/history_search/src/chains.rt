@@ -33,7 +33,7 @@ pub(crate) struct Member {
 
 /// A place in time for the operation at an index.
 #[derive(Clone, Copy)]
-pub(crate) struct Placed {
+pub(crate) struct Placement {
     pub(crate) place: u64,
     pub(crate) index: u32,
 }
@@ -184,7 +184,7 @@ pub(crate) fn list_chains(
 
 /// How far a location is placed.
 #[derive(Clone, Copy)]
-struct Reached {
+struct Progress {
     /// The last tick so far at which a member began.
     place: u64,
     /// That member, and its chain.
@@ -195,10 +195,10 @@ struct Reached {
 /// Adds a place for each member of a chain: the last tick so far at which one of the location began. Two members conflict if one had ended
 /// by its place.
 fn place_chain(
-    placed: &mut Vec<Placed>,
+    placed: &mut Vec<Placement>,
     order: &[Member],
     chain: Chain,
-    reached: &mut Reached,
+    reached: &mut Progress,
 ) -> Result<Option<Conflict>, NoMemory> {
     let mut first = chain.start;
     for member in order.iter().take(chain.end).skip(chain.start) {
@@ -216,7 +216,7 @@ fn place_chain(
             }));
         }
         if member.kind >= Kind::Store {
-            placed.push(Placed {
+            placed.push(Placement {
                 place: reached.place,
                 index: member.index,
             })?;
@@ -228,14 +228,14 @@ fn place_chain(
 
 /// Adds a place for each member of a location, as the chains follow each other, until two conflict.
 pub(crate) fn place_chains(
-    placed: &mut Vec<Placed>,
+    placed: &mut Vec<Placement>,
     order: &[Member],
     chains: &[Chain],
 ) -> Result<Option<Conflict>, NoMemory> {
     let Some(first) = chains.first() else {
         return Ok(None);
     };
-    let mut reached = Reached {
+    let mut reached = Progress {
         place: 0,
         last: 0,
         chain: *first,

@@ -76,7 +76,7 @@ pub(crate) fn clock_contradictions(
     Ok(found)
 }
 
-/// Proposes contradictions in a history to which a counter gave a tick twice: each names operations that are there. `NoMemory` comes if room is
+/// Proposes contradictions in a history to which a counter gave a tick twice: each names operations that are there. `NoMemory` is returned if room is
 /// refused: 32 bytes an operation are needed.
 pub fn propose_shared(
     alloc: Global,

@@ -1,7 +1,7 @@
 //! The board of some operations.
 
 use crate::accesses::{pages_of, short};
-use crate::board::{Board, Deed, Lane, NOTHING, Step, Uses};
+use crate::board::{Board, Effect, Lane, NOTHING, Step, Uses};
 use history::{Action, Operation};
 use mig_base::{NoMemory, PAGE_SIZE};
 use std::alloc::Global;
@@ -84,21 +84,21 @@ impl Layout {
     }
 
     /// What an operation does on the board.
-    fn deed_of(&self, action: Action) -> Deed {
+    fn effect_of(&self, action: Action) -> Effect {
         match access_of(action) {
             Some((addr, found, left)) => {
                 let at = place_of(&self.places, addr);
                 match (found, left) {
-                    (Some(found), Some(left)) => Deed::Swap {
+                    (Some(found), Some(left)) => Effect::Swap {
                         at,
                         found: self.number_of(at, found),
                         left: self.number_of(at, left),
                     },
-                    (None, Some(left)) => Deed::Store {
+                    (None, Some(left)) => Effect::Store {
                         at,
                         left: self.number_of(at, left),
                     },
-                    _ => Deed::Load {
+                    _ => Effect::Load {
                         at,
                         found: self.number_of(at, found.unwrap_or(0)),
                     },
@@ -106,7 +106,7 @@ impl Layout {
             }
             None => {
                 let (first, end) = pages_of(action).unwrap_or((0, 0));
-                Deed::Clear {
+                Effect::Clear {
                     from: place_of(&self.places, first.saturating_mul(PAGE_SIZE)),
                     to: place_of(&self.places, end.saturating_mul(PAGE_SIZE)),
                     unmaps: matches!(action, Action::Unmap { .. }),
@@ -158,7 +158,7 @@ pub(crate) fn lay_out(
             steps.push(Step {
                 begin: operation.begin,
                 end: operation.end,
-                deed: layout.deed_of(operation.action),
+                effect: layout.effect_of(operation.action),
                 index: *index,
                 line: operation.line,
                 thread: operation.thread,

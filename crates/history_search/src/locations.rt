@@ -1,7 +1,7 @@
 //! One location after the other.
 
 use crate::chains::{
-    Chain, Conflict, Kind, Member, Placed, list_chains, place_chains, sort_by_values,
+    Chain, Conflict, Kind, Member, Placement, list_chains, place_chains, sort_by_values,
 };
 use crate::clocks::MOST;
 use crate::cycles::{push_cycle, push_round};
@@ -28,7 +28,7 @@ pub enum Doubt {
 
 /// An operation that left a value.
 #[derive(Clone, Copy)]
-struct Left {
+struct LastValue {
     value: u64,
     begin: u64,
     end: u64,
@@ -37,8 +37,8 @@ struct Left {
 
 /// What was found so far.
 #[derive(Drop)]
-pub(crate) struct Found {
-    pub(crate) placed: Vec<Placed>,
+pub(crate) struct SearchState {
+    pub(crate) placed: Vec<Placement>,
     pub(crate) contradictions: Vec<Contradiction>,
     pub(crate) doubt: Option<Doubt>,
     /// How many steps may still be tried.
@@ -46,7 +46,7 @@ pub(crate) struct Found {
     /// What is known of the last location, kept for its room.
     chains: Vec<Chain>,
     order: Vec<Member>,
-    left: Vec<Left>,
+    left: Vec<LastValue>,
 }
 
 /// How many operations that left one value are looked at.
@@ -75,10 +75,10 @@ fn leave_zeros(members: &mut Vec<Member>) {
     }
 }
 
-impl Found {
+impl SearchState {
     /// Nothing was found. At most `budget` steps may be tried.
-    pub(crate) fn new(alloc: Global, budget: u64) -> Found {
-        Found {
+    pub(crate) fn new(alloc: Global, budget: u64) -> SearchState {
+        SearchState {
             placed: Vec::new(alloc),
             contradictions: Vec::new(alloc),
             doubt: None,
@@ -109,7 +109,7 @@ impl Found {
         self.left.clear();
         for member in members {
             if member.kind != Kind::Load && member.kind != Kind::Unmap {
-                self.left.push(Left {
+                self.left.push(LastValue {
                     value: member.shows,
                     begin: member.begin,
                     end: member.end,
@@ -130,21 +130,21 @@ impl Found {
     }
 
     /// The first operation that left a value, with the last end of those that did.
-    fn source_of(&self, value: u64) -> Option<Left> {
+    fn source_of(&self, value: u64) -> Option<LastValue> {
         let at = self.left.partition_point(|left| left.value < value);
-        let mut source: Option<Left> = None;
+        let mut source: Option<LastValue> = None;
         for (count, left) in self.left.iter().skip(at).enumerate() {
             if left.value != value {
                 break;
             }
             source = match source {
                 None => Some(*left),
-                Some(first) if count < FEW => Some(Left {
+                Some(first) if count < FEW => Some(LastValue {
                     end: first.end.max(left.end),
                     ..first
                 }),
                 Some(first) => {
-                    return Some(Left {
+                    return Some(LastValue {
                         end: u64::MAX,
                         ..first
                     });

@@ -5,9 +5,9 @@ ghost use Rattle.std.specs.List.{All};
 ghost use Rattle.history_search.specs.Proposals.{NamesThose};
 
 use crate::accesses::{Access, Listed, call_on, list_all, pages_of, short};
-use crate::chains::{Member, Placed, push_member, width_of};
+use crate::chains::{Member, Placement, push_member, width_of};
 use crate::clocks::clock_contradictions;
-use crate::locations::{Doubt, Found};
+use crate::locations::{Doubt, SearchState};
 use crate::tangles::take_tangles;
 use crate::within::keep_within;
 use history::{Clock, Contradiction, Operation, is_made_before};
@@ -30,14 +30,14 @@ pub enum Proposal {
 
 /// Adds a place for each map call that overlaps nothing: its begin.
 fn place_calls(
-    placed: &mut Vec<Placed>,
+    placed: &mut Vec<Placement>,
     operations: &[Operation],
     listed: &Listed,
 ) -> Result<(), NoMemory> {
     for (index, operation) in operations.iter().enumerate() {
         let index = short(index);
         if pages_of(operation.action).is_some() && listed.is_apart(index) {
-            placed.push(Placed {
+            placed.push(Placement {
                 place: operation.begin,
                 index,
             })?;
@@ -66,7 +66,7 @@ fn push_call(
 /// Takes the members of a location, which are removed.
 fn take_members(
     alloc: Global,
-    found: &mut Found,
+    found: &mut SearchState,
     operations: &[Operation],
     members: &mut Vec<Member>,
     access: Access,
@@ -80,7 +80,7 @@ fn take_members(
 /// Takes each location on whose page no call overlaps an access.
 fn take_locations(
     alloc: Global,
-    found: &mut Found,
+    found: &mut SearchState,
     operations: &[Operation],
     listed: &Listed,
 ) -> Result<(), NoMemory> {
@@ -107,7 +107,7 @@ fn take_locations(
 }
 
 /// The indices of what was placed, in the order of the places.
-fn order_of(alloc: Global, placed: &mut Vec<Placed>, count: usize) -> Result<Vec<u32>, NoMemory>
+fn order_of(alloc: Global, placed: &mut Vec<Placement>, count: usize) -> Result<Vec<u32>, NoMemory>
     ensures { IfOk result (λ order. All (λ index. index < count) order.items) }
 {
     placed.sort_by_key(|placed| placed.place)?;
@@ -141,7 +141,11 @@ fn keeps_threads(operations: &[Operation], order: &[u32]) -> bool {
 }
 
 /// Places all operations step by step. Whether an order was found.
-fn place_all(alloc: Global, found: &mut Found, operations: &[Operation]) -> Result<bool, NoMemory> {
+fn place_all(
+    alloc: Global,
+    found: &mut SearchState,
+    operations: &[Operation],
+) -> Result<bool, NoMemory> {
     let mut indices = Vec::with_capacity(alloc, operations.len())?;
     for index in 0..operations.len() {
         indices.push(short(index))?;
@@ -155,7 +159,7 @@ fn place_all(alloc: Global, found: &mut Found, operations: &[Operation]) -> Resu
 fn order_of_threads(
     alloc: Global,
     clock: Clock,
-    found: &mut Found,
+    found: &mut SearchState,
     operations: &[Operation],
 ) -> Result<Proposal, NoMemory>
     ensures { IfOk result (λ proposal. NamesThose operations.now proposal) }
@@ -175,7 +179,7 @@ fn order_of_threads(
 /// Takes all operations of a history. Why nothing can be proposed comes if there is a reason.
 fn find(
     alloc: Global,
-    found: &mut Found,
+    found: &mut SearchState,
     operations: &[Operation],
 ) -> Result<Option<Doubt>, NoMemory> {
     let most = operations.len().saturating_mul(8);
@@ -189,7 +193,7 @@ fn find(
 }
 
 /// Proposes an order of the operations of a history, or contradictions in it: each names operations that are there. No tick is looked for that a
-/// counter gave twice. `NoMemory` comes if room is refused: about 50 bytes an operation are needed.
+/// counter gave twice. `NoMemory` is returned if room is refused: about 50 bytes an operation are needed.
 pub fn propose(alloc: Global, clock: Clock, operations: &[Operation]) -> Result<Proposal, NoMemory>
     ensures { IfOk result (λ proposal. NamesThose operations.now proposal) }
 {
@@ -201,7 +205,7 @@ pub fn propose(alloc: Global, clock: Clock, operations: &[Operation]) -> Result<
     let budget = (operations.len() as u64)
         .saturating_mul(16)
         .saturating_add(MOST_STEPS);
-    let mut found = Found::new(alloc, budget);
+    let mut found = SearchState::new(alloc, budget);
     if let Some(doubt) = find(alloc, &mut found, operations)? {
         return Ok(Proposal::Nothing(doubt));
     }

@@ -2,7 +2,7 @@
 
 use crate::accesses::{Access, Call, Listed, pages_of};
 use crate::chains::{Member, push_member, width_of};
-use crate::locations::Found;
+use crate::locations::SearchState;
 use history::Operation;
 use mig_base::{NoMemory, PAGE_SIZE};
 use std::alloc::Global;
@@ -92,7 +92,7 @@ fn push_members(
 /// Adds what contradicts every order at the location of an access. Its members are removed.
 fn take_members(
     alloc: Global,
-    found: &mut Found,
+    found: &mut SearchState,
     operations: &[Operation],
     access: Access,
     members: &mut Vec<Member>,
@@ -106,7 +106,7 @@ fn take_members(
 /// Adds what contradicts every order at the locations of a tangle.
 fn push_reasons(
     alloc: Global,
-    found: &mut Found,
+    found: &mut SearchState,
     operations: &[Operation],
     listed: &Listed,
     tangle: &Tangle,
@@ -132,7 +132,7 @@ fn push_reasons(
 /// Puts the operations of a tangle into an order, or adds what contradicts it. Then it has none.
 fn take_tangle(
     alloc: Global,
-    found: &mut Found,
+    found: &mut SearchState,
     operations: &[Operation],
     listed: &Listed,
     tangle: &mut Tangle,
@@ -153,7 +153,7 @@ fn take_tangle(
 /// Takes the locations on pages on which a call overlaps something.
 pub(crate) fn take_tangles(
     alloc: Global,
-    found: &mut Found,
+    found: &mut SearchState,
     operations: &[Operation],
     listed: &Listed,
 ) -> Result<(), NoMemory> {

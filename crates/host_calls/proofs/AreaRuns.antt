@@ -6,12 +6,12 @@ use Rattle.mig_base.specs.declared.Area.{Area}
 use Rattle.mig_base.specs.declared.Prot.{Prot}
 use Rattle.mig_base.specs.declared.Run.{Run}
 use Rattle.mig_base.specs.PageSets.{in_runs}
-use Rattle.mig_base.specs.Ranges.{in_range}
+use Rattle.foundation.specs.Ranges.{in_range}
 use Rattle.mig_model.specs.Bounds.{IsMapping}
 use Rattle.mig_model.specs.Handlers.{AreRunsOf, AreSome}
-use Rattle.frame_texts.specs.Texts.{AreAreasAfter, AreMappedBelow, areas_of, prot_in}
-use Rattle.frame_texts.proofs.AreasInOrder.{areas_of-ordered}
-use Rattle.frame_texts.proofs.RunsAndAreas.{prot_in-areas_of}
+use Rattle.page_stream.specs.Texts.{AreAreasAfter, AreMappedBelow, areas_of, prot_in}
+use Rattle.page_stream.proofs.AreasInOrder.{areas_of-ordered}
+use Rattle.page_stream.proofs.RunsAndAreas.{prot_in-areas_of}
 
 -- areas without their protections
 abbrev pub runs_in : List Area → List Run

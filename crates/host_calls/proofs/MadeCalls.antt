@@ -12,8 +12,8 @@ use Rattle.mig_base.specs.declared.schedule.Side.{Side}
 use Rattle.mig_base.specs.declared.schedule.Step.{Step}
 use Rattle.mig_base.specs.declared.schedule.Ticket.{Ticket}
 use Rattle.mig_base.specs.Bytes.{zero_page}
-use Rattle.mig_base.specs.Ranges.{in_range}
-use Rattle.mig_base.proofs.RangeLemmas.{in_range-true, least_below_tells}
+use Rattle.foundation.specs.Ranges.{in_range}
+use Rattle.foundation.proofs.RangeLemmas.{in_range-true, least_below_tells}
 use Rattle.mig_base.proofs.SetLemmas.{member_run}
 use Rattle.mig_model.specs.Destination.{Destination, copy_came, destination_act, destination_act_by, destination_acted_by, destination_took, install_by, received_of, resumed_by}
 use Rattle.mig_base.specs.declared.act.Act.{Act}

@@ -1,6 +1,7 @@
 -- The calls of a host that a step stands for, by its effect: ioctl_userfaultfd(2), and userfaultfd(2) for messages that are read.
 use Rattle.std.specs.Prelude.{ℕ, zero, suc, ◌+◌, ◌-◌, ◌*◌, ◌<◌, ◌^◌, Bool, true, false, max, List, [], ◌∷◌, Result, Ok, Err}
-use Rattle.mig_base.specs.declared.TheConstants.{PAGE_SIZE, LOW}
+use Rattle.foundation.specs.declared.TheConstants.{PAGE_SIZE}
+use Rattle.mig_base.specs.declared.TheConstants.{LOW}
 use Rattle.mig_base.specs.declared.Area.{Area}
 use Rattle.mig_base.specs.declared.effect.Effect.{Effect}
 use Rattle.mig_base.specs.declared.message.Message.{Message}
@@ -11,7 +12,7 @@ use Rattle.mig_base.specs.declared.schedule.Step.{Step}
 use Rattle.mig_model.specs.Guest.{Guest}
 use Rattle.mig_model.specs.Ioctls.{event_features}
 use Rattle.mig_model.specs.Migration.{World}
-use Rattle.frame_texts.specs.Texts.{areas_of}
+use Rattle.page_stream.specs.Texts.{areas_of}
 use Rattle.host_calls.specs.declared.call.Call.{Call}
 
 -- the bytes of `count` neighbouring pages are read, the first of them at the address

@@ -1,15 +1,19 @@
 -- What the calls of a step do to the guest of a node, by the rows of `mig_model`: ioctl_userfaultfd(2), and userfaultfd(2) for messages
 -- that are read.
 use Rattle.std.specs.Prelude.{◌≡◌, ℕ, ◌/◌, ◌==◌, ◌⊎◌, false, true, if◌then◌else◌, None, Ok, List, [], ◌∷◌, set}
-use Rattle.mig_base.specs.declared.TheConstants.{PAGE_SIZE}
+use Rattle.foundation.specs.declared.TheConstants.{PAGE_SIZE}
 use Rattle.mig_base.specs.declared.wake.Wake.TheVariants.{Nobody, Range}
+use Rattle.mig_base.specs.declared.effect.Effect.{Effect}
+use Rattle.mig_base.specs.declared.schedule.Step.{Step}
 use Rattle.mig_model.specs.Cpus.{message_less, processor_at}
 use Rattle.mig_model.specs.Guest.{Guest, is_present}
 use Rattle.mig_model.specs.Handlers.{IsCopy, IsWake, IsWriteProtect, IsZeroPage, woken_by}
 use Rattle.mig_model.specs.Host.{Host}
 use Rattle.mig_model.specs.Ioctls.{handshake_error, handshaken, is_bad_range, read_error, read_space, register_error, registered, wake_answer}
+use Rattle.mig_model.specs.Migration.{World, next}
 use Rattle.mig_model.specs.Space.{Space, fresh_space}
 use Rattle.mig_model.specs.Wire.{Copy}
+use Rattle.host_calls.specs.Calls.{areas_at, calls_of, guest_at, node_of}
 use Rattle.host_calls.specs.declared.call.Call.{Call}
 
 -- UFFDIO_API on the fresh object of some host leads to this space
@@ -63,3 +67,9 @@ AreMade bytes (call ∷ calls) old new = (mid : Guest) × IsMade bytes call old 
 abbrev pub first_bytes : List Copy → List ℕ
 first_bytes [] = []
 first_bytes (copy ∷ rest) = copy.bytes
+
+-- the calls of a step, made one after the other, lead from the guest of its node to the guest that the step leaves there
+abbrev pub AreMadeIn : World → Step → Effect → Type 0
+AreMadeIn world step effect =
+    let node = node_of step in
+    AreMade (first_bytes world.destination.arrivals) (calls_of (areas_at node (next world step)) step effect) (guest_at node world) (guest_at node (next world step))

@@ -1,8 +1,8 @@
 //! The calls that a step stands for.
 
 ghost use Rattle.std.specs.Prelude.{◌≡◌, ◌+◌, ◌*◌, ◌^◌, ◌<◌, ◌++◌, OnOk};
-ghost use Rattle.mig_base.specs.declared.TheConstants.{PAGE_SIZE};
-ghost use Rattle.frame_texts.specs.Texts.{areas_of};
+ghost use Rattle.foundation.specs.declared.TheConstants.{PAGE_SIZE};
+ghost use Rattle.page_stream.specs.Texts.{areas_of};
 ghost use Rattle.host_calls.specs.Calls as listed;
 ghost use Rattle.host_calls.specs.Calls.{IsWithin, areas_at};
 

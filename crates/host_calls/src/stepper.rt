@@ -56,7 +56,7 @@ pub(crate) struct Stepper {
 }
 
 impl Stepper {
-    /// A stepper with a new world of `cpus` processors. `NoMemory` comes if the world cannot be made.
+    /// A stepper with a new world of `cpus` processors. `NoMemory` is returned if the world cannot be made.
     pub(crate) fn new(alloc: Global, cpus: u8) -> Result<Stepper, RunFault>
         requires low { 1 ≤ cpus }
         requires high { cpus ≤ 16 }

@@ -14,10 +14,10 @@ use Rattle.mig_base.specs.declared.command.Access.{Access}
 use Rattle.mig_base.specs.declared.command.Access.TheVariants.{Answered}
 use Rattle.mig_base.specs.declared.message.Message.{Message}
 use Rattle.mig_base.specs.Flat.{reply_of, after}
-use Rattle.mig_base.specs.Ranges.{in_range}
+use Rattle.foundation.specs.Ranges.{in_range}
 use Rattle.mig_base.specs.Sets.{without, moved_set}
-use Rattle.mig_base.proofs.TestLemmas.{and_false}
-use Rattle.mig_base.proofs.RangeLemmas.{none_below-from}
+use Rattle.foundation.proofs.TestLemmas.{and_false}
+use Rattle.foundation.proofs.RangeLemmas.{none_below-from}
 use Rattle.mig_base.proofs.SetLemmas.{same_members, member_without, member_below}
 use Rattle.mig_model.specs.Host.{Host, memory, host_after, IsSound}
 use Rattle.mig_base.specs.Userfault.{fresh_object, is_registered, is_watched}

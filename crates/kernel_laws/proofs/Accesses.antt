@@ -9,14 +9,14 @@ use Rattle.mig_base.specs.declared.command.Access.TheVariants.{Answered, Missing
 use Rattle.mig_base.specs.declared.command.Command.{Command}
 use Rattle.mig_base.specs.declared.command.Reply.{Reply}
 use Rattle.mig_base.specs.declared.message.Message.{Message}
-use Rattle.mig_base.specs.Bits.{is_one}
+use Rattle.foundation.specs.Bits.{is_one}
 use Rattle.mig_base.specs.Commands.{is_access, is_store, page_of}
 use Rattle.mig_base.specs.Flat.{reply_of}
 use Rattle.mig_base.specs.Messages.{fault_flags}
-use Rattle.mig_base.specs.Ranges.{in_range}
+use Rattle.foundation.specs.Ranges.{in_range}
 use Rattle.mig_base.specs.Userfault.{Noted, is_registered, thread_id, waits_fault}
 use Rattle.mig_base.proofs.SetSizes.{only_where}
-use Rattle.mig_base.proofs.TestLemmas.{eqb-self, missing_none}
+use Rattle.foundation.proofs.TestLemmas.{eqb-self, missing_none}
 use Rattle.mig_model.specs.Host.{Host, host_after, memory}
 use Rattle.mig_model.specs.Space.{IsSoundSpace, Space, access_of, accessed_by}
 use Rattle.mig_model.proofs.memory.HostLemmas.{get-put}

@@ -18,18 +18,18 @@ use Rattle.mig_base.specs.Bytes.{contents, low_bytes, overwrite}
 use Rattle.mig_base.specs.Commands.{is_access, is_store, page_of}
 use Rattle.mig_base.specs.Flat.{Cell, access_reply, allows_load, allows_store, is_aligned, number_at, reply_of}
 use Rattle.mig_base.specs.Pages.{remove_range, set_range}
-use Rattle.mig_base.specs.Ranges.{in_range, pages_of, rounded}
+use Rattle.foundation.specs.Ranges.{in_range, pages_of, rounded}
 use Rattle.mig_base.specs.Sets.{without}
-use Rattle.mig_base.specs.Userfault.{Object, event_queued, fault_queued, is_registered, is_watched, thread_id, unregistered, waits_fault}
+use Rattle.mig_base.specs.Userfault.{Object, event_queued, fault_queued, is_registered, is_watched, thread_id, unregistered, waits_fault, Noted}
 use Rattle.mig_base.proofs.PageLemmas.{get-remove_range, same_pages}
-use Rattle.mig_base.proofs.RangeLemmas.{in_range_bounds}
+use Rattle.foundation.proofs.RangeLemmas.{in_range_bounds}
 use Rattle.mig_base.proofs.SetLemmas.{member_without, same_members}
 use Rattle.mig_model.specs.Host.{Host, host_after, host_changed, host_dropped, memory}
 use Rattle.mig_model.specs.Space.{Space, accessed, accessed_by, all_queued, call_messages, called, is_made, message_if, modes_after, queued_by}
 use Rattle.mig_model.proofs.memory.HostLemmas.{get-put, memory-at}
 use Rattle.mig_model.proofs.memory.ReplyOfLemmas.{reply_of-prots}
 use Rattle.mig_model.proofs.owed.SeenLemmas.{same_prots}
-use Rattle.kernel_laws.specs.Logs.{is_followed}
+use Rattle.kernel_laws.specs.Logs.{is_remap}
 use Rattle.kernel_laws.proofs.Clearing.{dropped_space}
 use Rattle.kernel_laws.proofs.MapReplies.{by-reply, called_as}
 use Rattle.kernel_laws.proofs.Registers.{kept}
@@ -222,7 +222,7 @@ pub same-reply : (space : Space) (first count : ℕ) (command : Command) → is_
 same-reply space first count command access =
     reply_of-prots (memory (host_dropped space.host first count)) (memory space.host) command (same_prots (host_dropped space.host first count) space.host refl) access
 
-called-as : (space : Space) (first count start stop cpu who : ℕ) (command : Command) (answer : Reply) → is_access command ≡ false → is_followed command ≡ true → length (call_messages space.object command answer) ≡ 0 →
+called-as : (space : Space) (first count start stop cpu who : ℕ) (command : Command) (answer : Reply) → is_access command ≡ false → is_remap command answer ≡ false → length (call_messages space.object command answer) ≡ 0 →
     called_as (dropped space first count start stop cpu) who command answer ≡ dropped (called_as space who command answer) first count start stop cpu
 called-as space first count start stop cpu who (Command.Mmap len prot place) (reply.At at) access followed quiet =
     let messages = call_messages space.object (Command.Mmap len prot place) (reply.At at) in
@@ -244,27 +244,28 @@ called-as space first count start stop cpu who (Command.Munmap addr len) reply.D
       protected = swapped-set space.protected first count other more i;
       object = (none-queued (event_queued object (Message.Remove start stop) cpu) messages who quiet ∙ ap (λ o. event_queued o (Message.Remove start stop) cpu) (sym (none-queued object messages who quiet))) i;
     }
-called-as space first count start stop cpu who (Command.Mremap addr old_len new_len may_move fixed) answer access followed quiet = absurd (false≢true followed)
+called-as space first count start stop cpu who (Command.Mremap addr old_len new_len may_move fixed) (reply.At target) access followed quiet = absurd (false≢true (sym followed))
 called-as space first count start stop cpu who (Command.DontNeed addr len) reply.Done access followed quiet = also-dropped space first count start stop cpu who addr len (call_messages space.object (Command.DontNeed addr len) reply.Done) quiet
 called-as space first count start stop cpu who (Command.DontNeed addr len) (reply.Refused Errno.Enomem) access followed quiet =
     also-dropped space first count start stop cpu who addr len (call_messages space.object (Command.DontNeed addr len) (reply.Refused Errno.Enomem)) quiet
 called-as space first count start stop cpu who (Store addr width value) answer access followed quiet = absurd (false≢true (sym access))
 called-as space first count start stop cpu who command answer access followed quiet = refl
 
-same-messages : (object : Object) (message : Message) (cpu : ℕ) (command : Command) (answer : Reply) → call_messages (event_queued object message cpu) command answer ≡ call_messages object command answer
-same-messages object message cpu (Command.Mmap len prot place) (reply.At at) = refl
-same-messages object message cpu (Command.Munmap addr len) reply.Done = refl
-same-messages object message cpu (Command.Mremap addr old_len new_len may_move fixed) (reply.At at) = refl
-same-messages object message cpu (Command.DontNeed addr len) reply.Done = refl
-same-messages object message cpu (Command.DontNeed addr len) (reply.Refused Errno.Enomem) = refl
-same-messages object message cpu command answer = refl
+-- the unread events have no part in those of a call
+pub same-messages : (object : Object) (events : List Noted) (command : Command) (answer : Reply) → call_messages (record object { events = events }) command answer ≡ call_messages object command answer
+same-messages object events (Command.Mmap len prot place) (reply.At at) = refl
+same-messages object events (Command.Munmap addr len) reply.Done = refl
+same-messages object events (Command.Mremap addr old_len new_len may_move fixed) (reply.At at) = refl
+same-messages object events (Command.DontNeed addr len) reply.Done = refl
+same-messages object events (Command.DontNeed addr len) (reply.Refused Errno.Enomem) = refl
+same-messages object events command answer = refl
 
 pub same-queued : (space : Space) (first count start stop cpu : ℕ) (command : Command) → is_access command ≡ false → queued_by (dropped_space space first count start stop cpu true) command ≡ queued_by space command
 same-queued space first count start stop cpu command access =
     ap (λ r. length (call_messages (event_queued space.object (Message.Remove start stop) cpu) command r)) (same-reply space first count command access)
-    ∙ ap length (same-messages space.object (Message.Remove start stop) cpu command (reply_of (memory space.host) command))
+    ∙ ap length (same-messages space.object (event_queued space.object (Message.Remove start stop) cpu).events command (reply_of (memory space.host) command))
 
-pub called-apart : (space : Space) (first count start stop cpu who : ℕ) (command : Command) → is_access command ≡ false → is_followed command ≡ true → queued_by space command ≡ 0 →
+pub called-apart : (space : Space) (first count start stop cpu who : ℕ) (command : Command) → is_access command ≡ false → is_remap command (reply_of (memory space.host) command) ≡ false → queued_by space command ≡ 0 →
     called (dropped_space space first count start stop cpu true) who command ≡ dropped_space (called space who command) first count start stop cpu true
 called-apart space first count start stop cpu who command access followed quiet =
     by-reply (dropped space first count start stop cpu) who command (reply_of (memory space.host) command) (same-reply space first count command access)
@@ -290,14 +291,14 @@ bare-range space first count page message quiet registered = by (in_range first 
       absurd (some-message (is_watched space.object first count) message (is-watched space first count page bounds.0 bounds.1 registered) quiet)
   by false outside = (λ i. (kept space first count page outside).0 i || (kept space first count page outside).1 i) ∙ registered
 
-modes-registered : (space : Space) (command : Command) (answer : Reply) (page : ℕ) → is_followed command ≡ true → length (call_messages space.object command answer) ≡ 0 → is_registered space.object page ≡ true → is_registered (modes_after space.object command answer) page ≡ true
+modes-registered : (space : Space) (command : Command) (answer : Reply) (page : ℕ) → is_remap command answer ≡ false → length (call_messages space.object command answer) ≡ 0 → is_registered space.object page ≡ true → is_registered (modes_after space.object command answer) page ≡ true
 modes-registered space (Command.Mmap len prot place) (reply.At at) page followed quiet registered = bare-range space (at / 4096) (pages_of len) page (Message.Unmap at (at + rounded len)) quiet registered
 modes-registered space (Command.Munmap addr len) reply.Done page followed quiet registered = bare-range space (addr / 4096) (pages_of len) page (Message.Unmap addr (addr + rounded len)) quiet registered
-modes-registered space (Command.Mremap addr old_len new_len may_move fixed) answer page followed quiet registered = absurd (false≢true followed)
+modes-registered space (Command.Mremap addr old_len new_len may_move fixed) (reply.At target) page followed quiet registered = absurd (false≢true (sym followed))
 modes-registered space command answer page followed quiet registered = registered
 
 -- the pages that are registered stay so
-pub quiet-kept : (space : Space) (who : ℕ) (command : Command) → is_followed command ≡ true → queued_by space command ≡ 0 →
+pub quiet-kept : (space : Space) (who : ℕ) (command : Command) → is_remap command (reply_of (memory space.host) command) ≡ false → queued_by space command ≡ 0 →
     ((called space who command).object.enabled ≡ space.object.enabled) × ((called space who command).object.features ≡ space.object.features)
     × ((page : ℕ) → is_registered space.object page ≡ true → is_registered (called space who command).object page ≡ true)
 quiet-kept space who command followed quiet =

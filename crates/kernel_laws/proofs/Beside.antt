@@ -7,7 +7,7 @@ use Rattle.std.proofs.lemmas.Option.{none-some, same_Some}
 use Rattle.std.proofs.Common.{◌≡◌, ℕ, ◌-◌, ◌||◌, Bool, true, false, not, cond, eqb, Option, Some, None, List, [], ◌∷◌, ◌++◌, refl, sym, ap, subst, ◌∙◌}
 use Rattle.std.specs.Prelude.{is_some}
 use Rattle.std.specs.List.{list_any}
-use Rattle.mig_base.proofs.TestLemmas.{eqb-self, or_first, or_second}
+use Rattle.foundation.proofs.TestLemmas.{eqb-self, or_first, or_second}
 use Rattle.kernel_rules.specs.declared.run.Made.{Made}
 use Rattle.kernel_rules.specs.Runs.{Begun, Event, IsStep, Leads, Outcome, Step, World, all_left, begins, begun_of, effect_by, ends, line_of, lines_of, next_of, none_left, protect_of, protects_first, refuses, starts, takes, takes_next, without_begun, world_with}
 use Rattle.kernel_rules.specs.State.{Kernel}

@@ -5,13 +5,13 @@ use Rattle.std.proofs.Common.{◌≡◌, ℕ, zero, suc, ◌+◌, ◌/◌, ◌^�
 use Rattle.std.specs.FinMap.{contains_key, get}
 use Rattle.std.specs.FinSet.{contains}
 use Rattle.mig_base.specs.declared.command.Errno.{Errno}
-use Rattle.mig_base.specs.Bits.{is_one}
+use Rattle.foundation.specs.Bits.{is_one}
 use Rattle.mig_base.specs.Bytes.{zero_page}
-use Rattle.mig_base.specs.Tests.{first_holding}
+use Rattle.foundation.specs.Tests.{first_holding}
 use Rattle.mig_base.specs.Userfault.{changing, is_registered}
 use Rattle.mig_base.proofs.ByteLemmas.{length-zero_page}
-use Rattle.mig_base.proofs.RangeLemmas.{none_below-from, none_below-not}
-use Rattle.mig_base.proofs.TestLemmas.{and_false, and_first, and_second}
+use Rattle.foundation.proofs.RangeLemmas.{none_below-from, none_below-not}
+use Rattle.foundation.proofs.TestLemmas.{and_false, and_first, and_second}
 use Rattle.mig_model.specs.Ioctls.{answer_put, copied, copy_answer, handed, installed, is_bad_range, is_one_area, left_by, missing_run, put_answer, same_area, zeropage_answer, zeropaged}
 use Rattle.mig_model.specs.Space.{IsSoundSpace, Space}
 use Rattle.mig_model.proofs.memory.PageCalls.{same_prot_self}

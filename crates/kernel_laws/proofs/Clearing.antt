@@ -16,14 +16,14 @@ use Rattle.mig_base.specs.declared.TheConstants.{HIGH}
 use Rattle.mig_base.specs.declared.message.Message.TheVariants.{Remove}
 use Rattle.mig_base.specs.Flat.{dontneed_reply, first_refusal, is_all_mapped, is_page_start}
 use Rattle.mig_base.specs.Pages.{remove_range}
-use Rattle.mig_base.specs.Ranges.{in_range, lesser, pages_of, rounded}
+use Rattle.foundation.specs.Ranges.{in_range, lesser, pages_of, rounded}
 use Rattle.mig_base.specs.Sets.{without}
-use Rattle.mig_base.specs.Tests.{is_empty}
+use Rattle.foundation.specs.Tests.{is_empty}
 use Rattle.mig_base.specs.Userfault.{Noted, is_watched}
 use Rattle.mig_base.proofs.PageLemmas.{get-remove_range}
-use Rattle.mig_base.proofs.RangeLemmas.{in_range_bounds}
+use Rattle.foundation.proofs.RangeLemmas.{in_range_bounds}
 use Rattle.mig_base.proofs.ReplyLemmas.{dontneed_done, dontneed_hole}
-use Rattle.mig_base.proofs.TestLemmas.{eqb-self}
+use Rattle.foundation.proofs.TestLemmas.{eqb-self}
 use Rattle.mig_model.specs.Host.{host_dropped, memory}
 use Rattle.mig_model.specs.Space.{IsSoundSpace, Space, all_queued, call_messages, called, message_if}
 use Rattle.mig_model.proofs.memory.SpaceLemmas.{IsSoundSpace-called}
@@ -96,7 +96,7 @@ untold-remove name kernel key space first end events noted new are is =
       own = are.own;
       tells = λ other some.
           list_any-append (λ (one : Told). eqb one.key other && eqb one.object name) kernel.told (teller ∷ [])
-          ∙ told-more name key other kernel.told (eqb key other) refl (λ apart. are.tells other (ap is_empty (sym (others other apart)) ∙ some));
+          ∙ told-more name key other kernel.told (eqb key other) false refl (λ apart. are.tells other (ap is_empty (sym (others other apart)) ∙ some));
       none_queued = are.none_queued;
     }
 

@@ -2,9 +2,9 @@
 use Rattle.std.proofs.lemmas.Bool.Decides.{nat_tests}
 use Rattle.std.proofs.Common.{◌≡◌, ℕ, ◌<◌, ◌+◌, ◌*◌, ◌/◌, ◌%◌, ◌||◌, true, false, eqb, Some, None, List, [], ◌∷◌, ◌++◌, map, arith, refl, sym, ap, ◌∙◌}
 use Rattle.mig_base.specs.declared.message.Message.TheVariants.{Remove}
-use Rattle.mig_base.specs.Ranges.{pages_of}
+use Rattle.foundation.specs.Ranges.{pages_of}
 use Rattle.mig_base.specs.Userfault.{Noted, Object as ModelObject, event_queued, is_watched, message_read, read_by, rest_noted}
-use Rattle.mig_base.proofs.TestLemmas.{or_first}
+use Rattle.foundation.proofs.TestLemmas.{or_first}
 use Rattle.mig_model.specs.Ioctls.{has_events}
 use Rattle.mig_model.specs.Space.{IsSoundSpace, Space}
 use Rattle.uffd_log.specs.declared.call.Call.TheVariants as call
@@ -19,14 +19,14 @@ use Rattle.kernel_rules.specs.Runs as runs
 use Rattle.kernel_rules.specs.Runs.{Event, Leads, Outcome, begins, effect_at_end, ends, is_still, lines_of, line_of, on_object, on_space, takes, world_with}
 use Rattle.kernel_rules.specs.State.{Kernel, of_object}
 use Rattle.kernel_laws.specs.Agreement.{Counterparts, message_of}
-use Rattle.kernel_laws.specs.Logs.{AreLate, lines_of_call, under_way}
+use Rattle.kernel_laws.specs.Logs.{lines_of_call, read_call, under_way}
 use Rattle.kernel_laws.proofs.Beside.{world_of}
 use Rattle.kernel_laws.proofs.Clearing.{dropped_space}
 use Rattle.kernel_laws.proofs.Discards.{agree-discarded, announced, announces, announcing, clears-it, discarded, discarding, discards-it, quiet-again, range-watched, reader-may, reader-returns, span_for, takes-remove}
 use Rattle.kernel_laws.proofs.EventReads.{remove_of}
 use Rattle.kernel_laws.proofs.FaultReads.{sound-requeued, takes-read}
 use Rattle.kernel_laws.proofs.Kernels.{is-enabled}
-use Rattle.kernel_laws.proofs.LogRuns.{Goes, call-ends, leads-append, read_ended, steps_in, takes-effect}
+use Rattle.kernel_laws.proofs.LogRuns.{Differs, Goes, both-differ, call-ends, leads-append, steps_in, takes-effect}
 use Rattle.kernel_laws.proofs.MapRuns.{but-first, first-begun, map-call}
 use Rattle.kernel_laws.proofs.OpenCalls.{HasCalls, MayWake, Pending, none-begun, open_of, over_of}
 use Rattle.kernel_laws.proofs.Unmaps.{remove-tells}
@@ -46,9 +46,13 @@ pub record Discard : Type 0 where
   pub ends : Some (record { answer = answer; messages = []; runs = [] }) ≡ effect_at_end answer (record { answer = answer; messages = []; runs = [] })
   pub takes : (kernel : Kernel) → madvised kernel key home addr len 4 answer ≡ Some (clearing kernel key home (addr / 4096) (pages_of len) false)
 
+-- its REMOVE
+abbrev pub noted_by : Discard → Noted
+noted_by it = record { message = Remove it.addr (it.addr + 4096 * pages_of it.len); cpu = it.cpu }
+
 -- as a call under way
 abbrev pub pending_for : Discard → Pending
-pending_for it = record { key = it.key; home = it.home; call = call.Madvise it.addr it.len 4; answer = it.answer; rank = 0; start = it.addr; end = it.addr + 4096 * pages_of it.len }
+pending_for it = record { key = it.key; home = it.home; call = call.Madvise it.addr it.len 4; answer = it.answer; all = (noted_by it).message ∷ []; unread = record { rank = 0; message = (noted_by it).message } ∷ []; modelled = noted_by it ∷ [] }
 
 -- it has begun, and has had no effect
 abbrev pub waiting : Discard → runs.Begun
@@ -57,10 +61,6 @@ waiting it = record { made = (open_of (pending_for it)).made; out = None; left =
 -- the space that the model has from then on
 abbrev pub dropped_by : Discard → Space → Space
 dropped_by it space = dropped_space space (it.addr / 4096) (pages_of it.len) it.addr (it.addr + 4096 * pages_of it.len) it.cpu true
-
--- its REMOVE
-abbrev pub noted_by : Discard → Noted
-noted_by it = record { message = Remove it.addr (it.addr + 4096 * pages_of it.len); cpu = it.cpu }
 
 -- a run of these lines leads from a world, whose kernel's object agrees with the model's, to one whose object agrees with this space
 pub record From (start : runs.World) (after : List Pending) (one : Counterparts) (lines : List Event) (space : Space) : Type 0 where
@@ -72,7 +72,7 @@ pub record From (start : runs.World) (after : List Pending) (one : Counterparts)
   pub name : last.name ≡ one.name
   pub home : last.object.space ≡ one.object.space
   pub told : HasCalls after last
-  pub differs : AreLate one.kernel → AreLate last.kernel
+  pub differs : Differs lines one.kernel last.kernel
 
 pub then-from : {start : runs.World} {mid after : List Pending} (one : Counterparts) (lines more : List Event) (space last : Space) → (first : From start mid one lines space) → Goes mid after first.last more last → From start after one (lines ++ more) last
 then-from {start = start} {mid = mid} {after = after} one lines more space last first second =
@@ -85,7 +85,7 @@ then-from {start = start} {mid = mid} {after = after} one lines more space last 
       name = second.name ∙ first.name;
       home = second.home ∙ first.home;
       told = second.told;
-      differs = λ h. second.differs (first.differs h);
+      differs = both-differ lines more one.kernel first.last.kernel second.last.kernel first.differs second.differs;
     }
 
 -- the object once that message is read, and it was the only one
@@ -108,7 +108,7 @@ less-apart a b h = grind (arith, nat_tests, h)
 -- it takes effect, queues its REMOVE, which is read, clears the pages and returns
 pub remove-read : (it : Discard) (one : Counterparts) (key : ℕ) (on : Descriptor) → it.key < key → on.object ≡ one.name → HasCalls [] one → it.home ≡ one.object.space → one.space.object.enabled ≡ true → has_events one.space.object ≡ true →
     is_watched one.space.object (it.addr / 4096) (pages_of it.len) ≡ true → one.space.object.faults ≡ [] → one.space.object.events ≡ [] → IsSoundSpace (dropped_by it one.space) →
-    From (world_of one.kernel (waiting it ∷ [])) [] one (lines_of_call key (read_ended on (noted_by it)) ++ ends it.key (open_of (pending_for it)).out ∷ [])
+    From (world_of one.kernel (waiting it ∷ [])) [] one (lines_of_call key (read_call on (noted_by it).message) ++ ends it.key (open_of (pending_for it)).out ∷ [])
     (record (dropped_by it one.space) { object = message_read (dropped_by it one.space).object })
 unfolding on_object on_space
 remove-read it one key on low own told there enabled asked watched faults events sound =
@@ -120,7 +120,7 @@ remove-read it one key on low own told there enabled asked watched faults events
     let span = span_for it.key one.object.space first (first + count) in
     let over = over_of p in
     let out = (open_of p).out in
-    let ended = read_ended on (noted_by it) in
+    let ended = read_call on (noted_by it).message in
     let made : Made = record { key = key; space = 0; thread = 0; program = 0; call = ended.call; last = false } in
     let begun : runs.Begun = record { made = made; out = None; left = 0 } in
     let read_over : runs.Begun = record { made = made; out = Some ended.out; left = 0 } in
@@ -180,5 +180,5 @@ remove-read it one key on low own told there enabled asked watched faults events
       name = refl;
       home = refl;
       told = quiet-again kernel name span;
-      differs = λ h. h;
+      differs = λ moves none h. h;
     }

@@ -2,9 +2,9 @@
 use Rattle.std.proofs.lemmas.Bool.{false≢true}
 use Rattle.std.proofs.Common.{◌≡◌, ℕ, ◌<◌, ◌≤◌, ◌+◌, ◌-◌, ◌^◌, ◌&&◌, ◌||◌, Bool, true, false, not, cond, eqb, leb, Option, Some, None, [], ◌∷◌, ◌++◌, map, arith, refl, sym, ap, subst, ◌∙◌}
 use Rattle.std.specs.Prelude.{if◌then◌else◌, is_some}
-use Rattle.mig_base.specs.Ranges.{in_range}
+use Rattle.foundation.specs.Ranges.{in_range}
 use Rattle.mig_base.specs.Userfault.{Noted, is_registered, is_watched}
-use Rattle.mig_base.proofs.TestLemmas.{and_first, eqb-self}
+use Rattle.foundation.proofs.TestLemmas.{and_first, eqb-self}
 use Rattle.mig_model.specs.Space.{IsSoundSpace, Space}
 use Rattle.mig_model.proofs.memory.Registering.{pages_again}
 use Rattle.kernel_rules.specs.declared.calling.Span.{Span}
@@ -19,7 +19,7 @@ use Rattle.kernel_rules.specs.MapCalls.{cleared_by, all_cleared, clearing, clear
 use Rattle.kernel_rules.specs.Pages.{cleared_page, is_poisoned, is_present, known_as}
 use Rattle.kernel_rules.specs.Reads.{event_read, first_unread, is_next_remove, is_queued_as, is_whole, message_taken, removes_left, teller, watches_within}
 use Rattle.kernel_rules.specs.State.{Kernel, allowed, fresh_kernel, noted_if}
-use Rattle.mig_base.specs.Tests.{is_empty}
+use Rattle.foundation.specs.Tests.{is_empty}
 use Rattle.kernel_laws.specs.Agreement.{Agree, AgreesAt, AreUntold, Counterparts, has_page, message_of, telling}
 use Rattle.kernel_laws.proofs.Clearing.{dropped-bytes, dropped_space, page-dropped}
 use Rattle.kernel_laws.proofs.EventReads.{is-remove, no-faults, remove_of, removed, takes-event}
@@ -171,7 +171,7 @@ agree-discarded one first count start stop cpu key sound events =
           (page-discarded one.space first count start stop cpu one.name page (in_range first count page) (one.kernel.pages own page) sound refl (agree.pages page));
       unread = agree.unread;
       untold = subst (λ k. AreUntold one.name k one.space.object.events) (sym (quiet-again one.kernel one.name (span_for key own first (first + count))))
-          (untold-of key one.name [] one.space.object.events tt (ap (map (λ (noted : Noted). message_of noted.message)) (sym events)));
+          (untold-of one.name [] one.space.object.events tt (ap (map (λ (noted : Noted). message_of noted.message)) (sym events)));
       alone = agree.alone;
       ranged = agree.ranged;
     }

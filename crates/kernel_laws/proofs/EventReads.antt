@@ -8,10 +8,10 @@ use Rattle.std.proofs.lemmas.Option.{none-some, same_Some}
 use Rattle.std.proofs.Common.{◌≡◌, ℕ, zero, suc, ◌<◌, ◌+◌, ◌-◌, ◌*◌, ◌/◌, ◌&&◌, ◌||◌, Bool, true, false, not, cond, eqb, ltb, leb, Option, Some, None, List, [], ◌∷◌, ◌++◌, filter, length, map, arith, refl, sym, ap, subst, ◌∙◌}
 use Rattle.std.specs.Prelude.{is_some, max, min}
 use Rattle.std.specs.List.{flat_map, list_any}
-use Rattle.mig_base.specs.Ranges.{none_below}
-use Rattle.mig_base.specs.Tests.{is_empty}
+use Rattle.foundation.specs.Ranges.{none_below}
+use Rattle.foundation.specs.Tests.{is_empty}
 use Rattle.mig_base.specs.Userfault.{Noted}
-use Rattle.mig_base.proofs.TestLemmas.{and_false, and_first, and_second, eqb-self, or_first, or_second}
+use Rattle.foundation.proofs.TestLemmas.{and_false, and_first, and_second, eqb-self, or_first, or_second}
 use Rattle.mig_model.specs.Ioctls.{read_space}
 use Rattle.mig_model.specs.Space.{Space}
 use Rattle.mig_model.proofs.memory.Registering.{pages_again}
@@ -326,7 +326,7 @@ takes-event kernel key reader name object (log.Remap from to len) found after ev
 takes-event kernel key reader name object (log.Remove start end) found after event none is taken = rw (none, is) taken
 takes-event kernel key reader name object (log.Unmap start end) found after event none is taken = rw (none, is) taken
 
-no-fault : (message : LogMessage) → is_same_event message message ≡ true → is_fault message ≡ false
+pub no-fault : (message : LogMessage) → is_same_event message message ≡ true → is_fault message ≡ false
 no-fault (log.Fault addr flags thread) is = absurd (false≢true is)
 no-fault (log.Fork child) is = refl
 no-fault (log.Remap from to len) is = refl

@@ -5,9 +5,9 @@ use Rattle.std.proofs.lemmas.List.Concat.{flat_map-cons}
 use Rattle.std.proofs.Common.{◌≡◌, ℕ, ◌&&◌, ◌||◌, Bool, true, false, not, cond, eqb, ltb, Option, Some, None, List, [], ◌∷◌, ◌++◌, filter, length, map, arith, refl, sym, ap, ◌∙◌}
 use Rattle.std.specs.Prelude.{is_some}
 use Rattle.std.specs.List.{flat_map, list_any}
-use Rattle.mig_base.specs.Tests.{is_empty}
+use Rattle.foundation.specs.Tests.{is_empty}
 use Rattle.mig_base.specs.Userfault.{Noted, changing}
-use Rattle.mig_base.proofs.TestLemmas.{or_first, or_second}
+use Rattle.foundation.proofs.TestLemmas.{or_first, or_second}
 use Rattle.mig_model.specs.Space.{Space}
 use Rattle.kernel_rules.specs.declared.calling.Span.{Span}
 use Rattle.kernel_rules.specs.declared.calling.Told.{Told}

@@ -13,9 +13,9 @@ use Rattle.mig_base.specs.declared.command.Command.{Command}
 use Rattle.mig_base.specs.declared.effect.Effect.{Effect}
 use Rattle.mig_base.specs.declared.refusal.Refusal.{Refusal}
 use Rattle.mig_base.specs.declared.schedule.Step.{Step}
-use Rattle.mig_base.specs.Bits.{is_one}
+use Rattle.foundation.specs.Bits.{is_one}
 use Rattle.mig_base.specs.Commands.{is_access}
-use Rattle.mig_base.specs.Ranges.{in_range}
+use Rattle.foundation.specs.Ranges.{in_range}
 use Rattle.mig_base.specs.Userfault.{Noted, next_message}
 use Rattle.mig_base.proofs.PageLemmas.{get-set_range}
 use Rattle.mig_model.specs.Handlers.{AreRunsOf}
@@ -33,7 +33,7 @@ use Rattle.uffd_log.specs.declared.call.Message.TheVariants.{Fault}
 use Rattle.uffd_log.specs.declared.line.Answer.TheVariants.{Value}
 use Rattle.kernel_rules.specs.Ioctls.{has_calls, is_offer}
 use Rattle.kernel_laws.specs.Example.{IsOfDestination, its_calls, its_descriptor}
-use Rattle.kernel_laws.specs.Logs.{AreFollowed, Arrival, Ended, HaveNoMapCalls, IsFollowed, IsNoMapCall, Node, Written, answered, calls_written, destination, destination_writes, event_written, first_calls, is_followed, issue_written, keeps_off_all, log_of, read_written, then_written, whole_log}
+use Rattle.kernel_laws.specs.Logs.{AreFollowed, Arrival, Ended, HaveNoMapCalls, IsFollowed, IsNoMapCall, Node, Written, answered, calls_written, destination, destination_writes, message_written, first_calls, is_followed, issue_written, keeps_off_all, log_of, read_written, then_written, whole_log}
 use Rattle.kernel_laws.proofs.LogRuns.{no_thread_ids}
 use Rattle.kernel_laws.proofs.MapRuns.{no-map-call}
 use Rattle.kernel_laws.proofs.ExampleWorlds.{carried, discard_frame, eighth-step, eleventh-step, fifth-step, first-step, fourth-step, loading, mapping, ninth-step, owed, package_frame, retried, second-step, seventh-step, sixth-step, stored, storing, tenth-step, third-step, thirteenth-step, twelfth-step, w1, w2, w3, w4, w5, w6, w7, w8, w9, w10, w11, w12, w13}
@@ -194,7 +194,7 @@ one-followed space world (Step.Issue cpu command) access = by command access whe
   by (Command.Store addr width value) is = refl
   by (Command.Mmap len prot place) is = refl
   by (Command.Munmap addr len) is = refl
-  by (Command.Mremap addr old_len new_len may_move fixed) is = is
+  by (Command.Mremap addr old_len new_len may_move fixed) is = absurd (false≢true is)
   by (Command.DontNeed addr len) is = absurd (false≢true is)
 one-followed space world (Step.Retry cpu) access = λ command waits. refl
 one-followed space world step access = tt
@@ -202,14 +202,14 @@ one-followed space world step access = tt
 none-read : (on : Descriptor) (key : ℕ) (next : Option Noted) → (read_written on key [] next).begun ≡ []
 none-read on key None = refl
 none-read on key (Some noted) = by noted.message where
-  by : (message : Message) → (event_written on (key + 1) [] message).begun ≡ []
+  by : (message : Message) → (message_written on key [] message).begun ≡ []
   by (Message.PageFault addr write wp tid) = refl
   by (Message.Remap from to len) = refl
   by (Message.Remove start end) = refl
   by (Message.Unmap start end) = refl
 
 none-begun : (on : Descriptor) (from home key : ℕ) (world : World) (step : Step) (result : Result Effect Refusal) → IsNoMapCall step → (destination_writes on from home key [] world step result).begun ≡ []
-none-begun on from home key world (Step.Issue cpu command) (Ok effect) access = ap (λ o. (issue_written home key [] world.destination.guest.space command o).begun) (no-map-call command access)
+none-begun on from home key world (Step.Issue cpu command) (Ok effect) access = ap (λ o. (issue_written home key [] world.destination.guest.space cpu command o).begun) (no-map-call command access)
 none-begun on from home key world Step.DestRead (Ok effect) access = none-read on key (next_message world.destination.guest.space.object)
 none-begun on from home key world step result access = refl
 

@@ -51,7 +51,7 @@ use Rattle.mig_base.specs.declared.schedule.Step.{Step}
 use Rattle.mig_base.specs.Bytes.{contents, low_bytes, overwrite}
 use Rattle.mig_base.specs.Flat.{exceeds_limit, fill, mapped_count, reply_of, zeros_with}
 use Rattle.mig_base.specs.Pages.{remove_range, set_range}
-use Rattle.mig_base.specs.Ranges.{none_below}
+use Rattle.foundation.specs.Ranges.{none_below}
 use Rattle.mig_base.specs.Sets.{without}
 use Rattle.mig_base.specs.Userfault.{Object, enabled_with, fresh_object, is_registered, is_watched, unregistered}
 use Rattle.mig_base.proofs.PageLemmas.{get-set_range, len-set_range}

@@ -7,10 +7,10 @@ use Rattle.std.proofs.Common.{◌≡◌, ℕ, ◌&&◌, ◌||◌, Bool, true, fa
 use Rattle.std.specs.Prelude.{is_some}
 use Rattle.std.specs.List.{list_any}
 use Rattle.mig_base.specs.declared.command.Errno.{Errno}
-use Rattle.mig_base.specs.Tests.{first_holding}
+use Rattle.foundation.specs.Tests.{first_holding}
 use Rattle.mig_base.specs.Userfault.{Noted, next_message}
 use Rattle.mig_base.proofs.SetSizes.{only_where}
-use Rattle.mig_base.proofs.TestLemmas.{eqb-self}
+use Rattle.foundation.proofs.TestLemmas.{eqb-self}
 use Rattle.mig_model.specs.Ioctls.{read_error, read_space}
 use Rattle.mig_model.specs.Space.{IsSoundSpace, Space}
 use Rattle.uffd_log.specs.declared.call.Message.{Message as LogMessage}
@@ -27,7 +27,7 @@ use Rattle.kernel_rules.specs.Reads.{first_unread, has_room_for, has_unread, is_
 use Rattle.kernel_rules.specs.State.{Kernel, allowed, is_enabled, noted_if}
 use Rattle.kernel_rules.proofs.Steps.{queues_is}
 use Rattle.kernel_laws.specs.Agreement.{Agree, AgreesAt, AreUnread, Takes, is_message_of, message_of, number_of, telling}
-use Rattle.kernel_laws.specs.Logs.{AreLate, is_late}
+use Rattle.kernel_laws.specs.Logs.{AreExpected, is_expected}
 use Rattle.kernel_laws.specs.Reading.{is_of_reader}
 use Rattle.kernel_laws.proofs.Kernels.{is-enabled}
 use Rattle.kernel_laws.proofs.Waiting.{first_unread-append, gone, unread-read}
@@ -122,7 +122,7 @@ home_of (Some object) = Some object.space
 pub record Keeps (kernel after : Kernel) : Type 0 where
   pub told : telling after ≡ telling kernel
   pub homes : (name space : ℕ) → home_of (kernel.objects name) ≡ Some space → home_of (after.objects name) ≡ Some space
-  pub differs : AreLate kernel → AreLate after
+  pub differs : (moves : Bool) → AreExpected moves kernel → AreExpected moves after
 
 pub keeps-none : (b : Bool) (difference : Difference) (kernel now : Kernel) → b ≡ false → Keeps kernel now → Keeps kernel (noted_if b difference now)
 keeps-none true difference kernel now is keeps = absurd (false≢true (sym is))
@@ -133,7 +133,7 @@ keeps-late true kernel now keeps =
     record {
       told = keeps.told;
       homes = keeps.homes;
-      differs = λ h. list_any-append (λ difference. not (is_late difference)) now.differs (FaultOnItsWay ∷ []) ∙ ap (λ b. b || false) (keeps.differs h);
+      differs = λ moves h. list_any-append (λ difference. not (is_expected moves difference)) now.differs (FaultOnItsWay ∷ []) ∙ ap (λ b. b || false) (keeps.differs moves h);
     }
 keeps-late false kernel now keeps = keeps
 
@@ -183,7 +183,7 @@ fault-read space kernel key reader name object room noted rest agree enabled fau
     let agreed = agree-queued space kernel name object fault agree in
     let waiting : Kernel = record kernel { faults = faults_without kernel.faults fault.thread ++ told ∷ [] } in
     let kept : Keeps kernel now =
-    keeps-none twin FaultOfEachThread kernel (noted_if late FaultOnItsWay waiting) (no-twin kernel.faults name fault way.watched agree.unread.none_queued) (keeps-late late kernel waiting (record { told = refl; homes = λ name space h. h; differs = λ h. h })) in
+    keeps-none twin FaultOfEachThread kernel (noted_if late FaultOnItsWay waiting) (no-twin kernel.faults name fault way.watched agree.unread.none_queued) (keeps-late late kernel waiting (record { told = refl; homes = λ name space h. h; differs = λ moves h. h })) in
     let first : first_unread now.faults name ≡ Some told =
     ap (λ l. first_unread l name) (queued-faults kernel object fault)
     ∙ first_unread-append (faults_without kernel.faults fault.thread) (told ∷ []) name (gone kernel.faults name fault.thread unread.none_queued)

@@ -2,6 +2,7 @@
 use Rattle.std.proofs.lemmas.Bool.Decides.{nat_tests}
 use Rattle.std.proofs.lemmas.Bool.{false≢true, not-false, or_left, or_right}
 use Rattle.std.proofs.lemmas.List.Elements.{filter_map-append}
+use Rattle.std.proofs.lemmas.List.Folds.{list_any-append}
 use Rattle.std.proofs.Common.{◌≡◌, ℕ, ◌+◌, ◌*◌, ◌/◌, ◌||◌, Bool, true, false, cond, Option, Some, None, List, [], ◌∷◌, ◌++◌, length, arith, refl, sym, ap, subst, ◌∙◌, not, ◌&&◌}
 use Rattle.std.specs.Prelude.{Ok}
 use Rattle.std.specs.FinMap.{contains_key}
@@ -10,11 +11,11 @@ use Rattle.mig_base.specs.declared.Run.{Run}
 use Rattle.mig_base.specs.declared.command.Errno.{Errno}
 use Rattle.mig_base.specs.declared.effect.Effect.{Effect}
 use Rattle.mig_base.specs.declared.schedule.Step.{Step}
-use Rattle.mig_base.specs.Bits.{is_one}
+use Rattle.foundation.specs.Bits.{is_one}
 use Rattle.mig_base.specs.PageSets.{in_runs}
-use Rattle.mig_base.specs.Ranges.{in_range, none_below}
+use Rattle.foundation.specs.Ranges.{in_range, none_below}
 use Rattle.mig_base.specs.Userfault.{enabled_with, fresh_object}
-use Rattle.mig_base.proofs.TestLemmas.{eqb-self}
+use Rattle.foundation.proofs.TestLemmas.{eqb-self, or_first, or_second}
 use Rattle.mig_model.specs.Destination.{Destination, destination_took}
 use Rattle.mig_model.specs.Effects.{frame_effect}
 use Rattle.mig_model.specs.Handlers.{AreRegistered, MayRegister, registered_in_turn}
@@ -39,11 +40,10 @@ use Rattle.kernel_rules.specs.MapCalls.{returned}
 use Rattle.kernel_rules.specs.Runs.{Leads, line_of, lines_of, on_object, on_space}
 use Rattle.kernel_rules.specs.State.{Kernel, asked_for, fresh_kernel, is_within, with_object}
 use Rattle.kernel_laws.specs.Agreement.{Agree, AreMapped, Counterparts, Takes, answer_of_api, answer_of_register}
-use Rattle.kernel_laws.specs.Logs.{AreFollowed, Arrival, HasRun, answered, arrived, at_rest, destination, first_calls, lines_of_call, lines_of_calls, log_of, register_calls, space_after, under_way, whole_log}
+use Rattle.kernel_laws.specs.Logs.{AreFollowed, Arrival, HasRun, answered, arrived, at_rest, destination, first_calls, have_mremap, is_mremap, lines_of_call, lines_of_calls, log_of, register_calls, space_after, under_way, whole_log}
 use Rattle.kernel_laws.proofs.Accesses.{asked}
 use Rattle.kernel_laws.proofs.FaultReads.{Keeps, keeps-none}
 use Rattle.kernel_laws.proofs.Followed.{both_fail}
-use Rattle.kernel_laws.proofs.States.{Free}
 use Rattle.kernel_laws.proofs.DestinationRuns.{steps-end}
 use Rattle.kernel_laws.proofs.LogRuns.{Goes, agree-returned, allowed-is, call-leads, call_steps, homes-with, leads-append, logged-rule, stays, then-logged}
 use Rattle.kernel_laws.proofs.OpenCalls.{AreBelow, HasCalls, Pending, still-below}
@@ -95,7 +95,7 @@ shaken-keeps : (one : Counterparts) (offer : ℕ) (after : Kernel) → rules.sha
 unfolding is_one none_below
 shaken-keeps one offer after is =
     subst (Keeps one.kernel) (allowed-is _ _ after is)
-    (keeps-none (not (is_within event_features 0x14d)) OtherFeatures one.kernel (with_object one.kernel one.name (record one.object { features = Some event_features })) refl (record { told = refl; homes = homes-with one (record one.object { features = Some event_features }) refl; differs = λ h. h }))
+    (keeps-none (not (is_within event_features 0x14d)) OtherFeatures one.kernel (with_object one.kernel one.name (record one.object { features = Some event_features })) refl (record { told = refl; homes = homes-with one (record one.object { features = Some event_features }) refl; differs = λ moves h. h }))
 
 api-logged : (one : Counterparts) (on : Descriptor) (offer key : ℕ) → HasCalls [] one → on.object ≡ one.name → rules.is_offer all_features offer ≡ true → one.space.object.faults ≡ [] → handshake_error one.space 0xaa event_features ≡ None →
     Goes [] [] one (lines_of_call key (answered (call.Api on 0xaa event_features) (Features all_features offer))) (handshaken one.space 0xaa event_features)
@@ -119,7 +119,7 @@ asked-events one start len bits accepted =
 registered-keeps : (one : Counterparts) (start len bits calls : ℕ) (after : Kernel) → register_error one.space start len bits ≡ None → rules.registered one.kernel one.name one.object start len bits (Value calls) ≡ Some after → Keeps one.kernel after
 registered-keeps one start len bits calls after accepted is =
     subst (Keeps one.kernel) (allowed-is _ _ after is)
-    (keeps-none (not (asked_for one.object 2 && asked_for one.object 3 && asked_for one.object 6)) RegisterWithoutEvents one.kernel _ (asked-events one start len bits accepted) (record { told = refl; homes = λ name space h. h; differs = λ h. h }))
+    (keeps-none (not (asked_for one.object 2 && asked_for one.object 3 && asked_for one.object 6)) RegisterWithoutEvents one.kernel _ (asked-events one start len bits accepted) (record { told = refl; homes = λ name space h. h; differs = λ moves h. h }))
 
 left-host : (error : Option Errno) (old new : Space) → new.host ≡ old.host → (left_by error old new).host ≡ old.host
 left-host None old new same = same
@@ -205,11 +205,13 @@ has-log it steps followed =
     let there : HaveAreas (handshaken (bare_space host) 0xaa event_features) it.areas = λ page inside. shaken-areas host page ∙ sym (it.are.pages page) ∙ inside in
     let begun = first-logged one on it.offer it.calls it.areas new.destination.guest.space refl refl it.offers it.has refl watched.handshake there watched.areas in
     let number = length (first_calls it) in
-    let at : Free on.object 0 number new.destination.guest.space [] begun.last = record { same = begun.leaves; told = begun.told; below = tt; own = sym begun.name; there = sym begun.home } in
-    let rest = steps-end on it.from 0 it.source new number begun.last steps (again, has-run it.world it.n it.count it.is) at followed in
+    let rest = steps-end on it.from 0 it.source new number begun.last steps (again, has-run it.world it.n it.count it.is) begun.told begun.leaves (sym begun.name) (sym begun.home) followed in
     let opening = call_steps 0 (answered (call.Open false 0x800) (Opened on)) in
     let log = log_of (destination on it.from 0) number [] new steps in
     let last = under_way rest.last.kernel log.begun in
+    let lines = lines_of_call 1 (answered (call.Api on 0xaa event_features) (Features all_features it.offer)) ++ lines_of_calls 2 (register_calls on 1 it.calls it.areas) in
+    let moves = have_mremap (whole_log it steps).lines in
+    let split = λ (none : moves ≡ false). sym (list_any-append is_mremap lines log.lines) ∙ none in
     record {
       steps = opening ++ (begun.steps ++ rest.steps);
       last = rest.last;
@@ -217,6 +219,6 @@ has-log it steps followed =
         whole = filter_map-append line_of opening (begun.steps ++ rest.steps) ∙ ap (λ l. lines_of opening ++ l) (filter_map-append line_of begun.steps rest.steps ∙ (λ i. begun.whole i ++ rest.whole i));
         leads = leads-append (at_rest fresh_kernel) (at_rest kernel) last opening (begun.steps ++ rest.steps) (opens on) (leads-append (at_rest kernel) (at_rest begun.last.kernel) last begun.steps rest.steps begun.leads rest.leads);
       };
-      differs = rest.differs (begun.differs refl);
+      differs = rest.differs moves (λ none. or_second (have_mremap lines) (have_mremap log.lines) (split none)) (begun.differs moves (λ none. or_first (have_mremap lines) (have_mremap log.lines) (split none)) refl);
       leaves = rest.leaves;
     }

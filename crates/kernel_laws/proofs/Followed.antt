@@ -6,8 +6,8 @@ use Rattle.mig_base.specs.declared.command.Errno.{Errno}
 use Rattle.mig_base.specs.declared.effect.Effect.{Effect}
 use Rattle.mig_base.specs.declared.schedule.Step.{Step}
 use Rattle.mig_base.specs.declared.wake.Wake.{Wake}
-use Rattle.mig_base.specs.Bits.{is_one}
-use Rattle.mig_base.specs.Tests.{first_holding, is_every}
+use Rattle.foundation.specs.Bits.{is_one}
+use Rattle.foundation.specs.Tests.{first_holding, is_every}
 use Rattle.mig_base.specs.Userfault.{changing}
 use Rattle.std.specs.FinSet.{contains}
 use Rattle.mig_model.specs.Handlers.{IsCopy, IsWake, IsWriteProtect, IsZeroPage, page_put}

@@ -22,8 +22,10 @@ pub mod SourceRuns
 pub mod SourceOpens
 pub mod ExampleWorlds
 pub mod ExampleLog
+pub mod Tellings
 pub mod Unmaps
 pub mod MapReplies
+pub mod Remaps
 pub mod Returns
 pub mod Beside
 pub mod Discards

@@ -3,6 +3,7 @@ use Rattle.kernel_rules.specs.Reads.{first_unread}
 use Rattle.std.proofs.lemmas.Bool.Decides.{nat_tests}
 use Rattle.std.proofs.lemmas.Bool.{eqb-true, false≢true}
 use Rattle.std.proofs.lemmas.List.Elements.{filter_map-append}
+use Rattle.std.proofs.lemmas.List.Folds.{list_any-append}
 use Rattle.std.proofs.lemmas.Option.{none-some, same_Some}
 use Rattle.std.proofs.Common.{◌≡◌, ℕ, ◌+◌, ◌*◌, ◌≤◌, ◌^◌, Bool, true, false, not, cond, eqb, ltb, Option, Some, None, List, [], ◌∷◌, ◌++◌, length, arith, refl, sym, ap, subst, ◌∙◌, ◌&&◌, ◌/◌}
 use Rattle.std.specs.Prelude.{Result, Ok, Err, is_some, map}
@@ -14,12 +15,13 @@ use Rattle.mig_base.specs.declared.command.Command.{Command}
 use Rattle.mig_base.specs.declared.effect.Effect.{Effect}
 use Rattle.mig_base.specs.declared.refusal.Refusal.{Refusal}
 use Rattle.mig_base.specs.declared.schedule.Step.{Step}
-use Rattle.mig_base.specs.Bits.{is_one}
+use Rattle.foundation.specs.Bits.{is_one}
 use Rattle.mig_base.specs.Commands.{is_access, is_store, page_of}
 use Rattle.mig_base.specs.Messages.{fault_flags}
-use Rattle.mig_base.specs.Ranges.{in_range}
-use Rattle.mig_base.specs.Tests.{is_empty}
+use Rattle.foundation.specs.Ranges.{in_range}
+use Rattle.foundation.specs.Tests.{is_empty}
 use Rattle.mig_base.specs.Userfault.{Noted, message_read, next_of, waits_fault}
+use Rattle.foundation.proofs.TestLemmas.{or_first, or_second}
 use Rattle.mig_model.specs.Ioctls.{event_features}
 use Rattle.mig_model.specs.Migration.{World, next, outcome}
 use Rattle.mig_model.specs.Space.{Space, access_of, accessed, accessed_by}
@@ -42,13 +44,13 @@ use Rattle.kernel_rules.specs.Runs.{Event, IsStep, Leads, Outcome, begins, ends,
 use Rattle.kernel_rules.specs.State.{Kernel, allowed, of_object}
 use Rattle.kernel_laws.specs.Agreement.{Agree, AreUntold, Counterparts, Takes, message_of, telling}
 use Rattle.kernel_laws.specs.Handlers.{copies_page, zeroes_page}
-use Rattle.kernel_laws.specs.Logs.{AreLate, Ended, Node, Written, answered, calls_written, lines_of_call, lines_of_calls, read_call, then_written, under_way}
+use Rattle.kernel_laws.specs.Logs.{AreExpected, Ended, Node, Written, answered, calls_written, have_mremap, is_mremap, lines_of_call, lines_of_calls, read_call, under_way}
 use Rattle.kernel_laws.specs.Reading.{is_of_reader, makes}
 use Rattle.kernel_laws.proofs.Accesses.{makes-taken}
 use Rattle.kernel_laws.proofs.FaultReads.{Keeps, fault-read, home_of, keeps-none, none-unread, requeued}
-use Rattle.kernel_laws.proofs.OpenCalls.{AreBelow, HasCalls, Pending, apart, begun_calls, but-last, last-begun, none-begun, open_of, others-return, others-stay, still-below, telling_of}
+use Rattle.kernel_laws.proofs.OpenCalls.{AreBelow, HasCalls, Pending, apart, begun_calls, but-last, last-begun, none-begun, open_of, others-return, others-stay, seen, telling_of}
 use Rattle.mig_base.specs.declared.command.Errno.{Errno}
-use Rattle.mig_base.specs.Tests.{first_holding, is_every}
+use Rattle.foundation.specs.Tests.{first_holding, is_every}
 use Rattle.mig_base.specs.Userfault.{changing}
 use Rattle.mig_model.specs.Ioctls.{is_bad_range, writeprotect_error}
 use Rattle.kernel_rules.specs.declared.calling.Protecting.{Protecting}
@@ -64,6 +66,15 @@ pub leads-append : (a b c : runs.World) (steps more : List runs.Step) → Leads 
 leads-append a b c [] more first second = subst (λ w. Leads w more c) (sym first) second
 leads-append a b c (step ∷ steps) more first second = (first.0, first.1, leads-append first.0 b c steps more first.2 second)
 
+-- lines note no difference but those that are expected of them
+abbrev pub Differs : List Event → Kernel → Kernel → Type 0
+Differs lines before after = (moves : Bool) → (moves ≡ false → have_mremap lines ≡ false) → AreExpected moves before → AreExpected moves after
+
+pub both-differ : (lines more : List Event) (one two three : Kernel) → Differs lines one two → Differs more two three → Differs (lines ++ more) one three
+both-differ lines more one two three first second moves none before =
+    let split = λ (m : moves ≡ false). sym (list_any-append is_mremap lines more) ∙ none m in
+    second moves (λ m. or_second (have_mremap lines) (have_mremap more) (split m)) (first moves (λ m. or_first (have_mremap lines) (have_mremap more) (split m)) before)
+
 -- a run of these lines leads from a kernel whose object agrees with the model's to one whose object agrees with this space, and from these map
 -- calls under way to those
 pub record Goes (before after : List Pending) (one : Counterparts) (lines : List Event) (space : Space) : Type 0 where
@@ -75,11 +86,11 @@ pub record Goes (before after : List Pending) (one : Counterparts) (lines : List
   pub name : last.name ≡ one.name
   pub home : last.object.space ≡ one.object.space
   pub told : HasCalls after last
-  pub differs : AreLate one.kernel → AreLate last.kernel
+  pub differs : Differs lines one.kernel last.kernel
 
 -- nothing happens
 pub stays : {calls : List Pending} (one : Counterparts) (space : Space) → one.space ≡ space → HasCalls calls one → Goes calls calls one [] space
-stays one space same told = record { steps = []; last = one; whole = refl; leads = refl; leaves = same; name = refl; home = refl; told = told; differs = λ h. h }
+stays one space same told = record { steps = []; last = one; whole = refl; leads = refl; leaves = same; name = refl; home = refl; told = told; differs = λ moves none h. h }
 
 pub then-logged : {before mid after : List Pending} (one : Counterparts) (lines more : List Event) (space last : Space) → (first : Goes before mid one lines space) → Goes mid after first.last more last → Goes before after one (lines ++ more) last
 then-logged {before = before} {mid = mid} {after = after} one lines more space last first second =
@@ -92,7 +103,7 @@ then-logged {before = before} {mid = mid} {after = after} one lines more space l
       name = second.name ∙ first.name;
       home = second.home ∙ first.home;
       told = second.told;
-      differs = λ h. second.differs (first.differs h);
+      differs = both-differ lines more one.kernel first.last.kernel second.last.kernel first.differs second.differs;
     }
 
 -- A call that has returned
@@ -162,7 +173,7 @@ call-leads calls kernel after key name ended below taken still out told =
 logged-call : {calls : List Pending} (one : Counterparts) (kernel after : Kernel) (key : ℕ) (ended : Ended) (object : Object) (space : Space) (before : List runs.Step) → AreBelow key calls → lines_of before ≡ [] →
     Leads (under_way one.kernel (map open_of calls)) before (under_way kernel (map open_of calls)) →
     takes kernel (record { key = key; space = 0; thread = 0; program = 0; call = ended.call; last = false }) ended.out ≡ Some after → is_still ended.out ≡ true → Some ended.out ≡ effect_at_end ended.out.answer ended.out → telling after ≡ telling_of one.name calls → object.space ≡ one.object.space →
-    (AreLate one.kernel → AreLate after) → Agree space after one.name object → Goes calls calls one (lines_of_call key ended) space
+    ((moves : Bool) → AreExpected moves one.kernel → AreExpected moves after) → Agree space after one.name object → Goes calls calls one (lines_of_call key ended) space
 logged-call {calls = calls} one kernel after key ended object space before below none first taken still out told home differs agree =
     record {
       steps = before ++ call_steps key ended;
@@ -174,7 +185,7 @@ logged-call {calls = calls} one kernel after key ended object space before below
       name = refl;
       home = home;
       told = told-returned calls after key one.name below told;
-      differs = differs;
+      differs = λ moves none. differs moves;
     }
 
 -- the object of a name has the address space that it had
@@ -234,16 +245,16 @@ put-keeps kernel put name first count false none keeps = woken-keeps kernel put 
 
 zeroed-keeps : (one : Counterparts) (key addr : ℕ) (after : Kernel) → zeroes_page one key addr ≡ Some after → Keeps one.kernel after
 zeroed-keeps one key addr after is =
-    subst (Keeps one.kernel) (allowed-is _ _ after is) (put-keeps one.kernel _ one.name (addr / 4096) (4096 / 4096) (is_one 0 0) one.agree.unread.none_queued (record { told = refl; homes = homes-with one (record one.object { puts = true }) refl; differs = λ h. h }))
+    subst (Keeps one.kernel) (allowed-is _ _ after is) (put-keeps one.kernel _ one.name (addr / 4096) (4096 / 4096) (is_one 0 0) one.agree.unread.none_queued (record { told = refl; homes = homes-with one (record one.object { puts = true }) refl; differs = λ moves h. h }))
 
 copied-keeps : (one : Counterparts) (key from addr : ℕ) (after : Kernel) → copies_page one key from addr ≡ Some after → Keeps one.kernel after
 copied-keeps one key from addr after is =
     subst (Keeps one.kernel) (allowed-is _ _ after (unless-none _ _ after is))
-    (put-keeps one.kernel _ one.name (addr / 4096) (4096 / 4096) (is_one 0 0) one.agree.unread.none_queued (record { told = refl; homes = homes-with one (record one.object { puts = true }) refl; differs = λ h. h }))
+    (put-keeps one.kernel _ one.name (addr / 4096) (4096 / 4096) (is_one 0 0) one.agree.unread.none_queued (record { told = refl; homes = homes-with one (record one.object { puts = true }) refl; differs = λ moves h. h }))
 
 waked-keeps : (one : Counterparts) (addr len : ℕ) (after : Kernel) → waked one.kernel one.name one.object addr len Done ≡ Some after → Keeps one.kernel after
 waked-keeps one addr len after is =
-    subst (Keeps one.kernel) (allowed-is _ _ after is) (woken-keeps one.kernel one.kernel one.name (addr / 4096) (len / 4096) true one.agree.unread.none_queued (record { told = refl; homes = λ name space h. h; differs = λ h. h }))
+    subst (Keeps one.kernel) (allowed-is _ _ after is) (woken-keeps one.kernel one.kernel one.name (addr / 4096) (len / 4096) true one.agree.unread.none_queued (record { told = refl; homes = λ name space h. h; differs = λ moves h. h }))
 
 -- UFFDIO_WRITEPROTECT: each page of the range is registered for it, and no page of it is protected before the others
 
@@ -255,7 +266,7 @@ kept-keeps : (one : Counterparts) (key first count bits : ℕ) →
     Keeps one.kernel (kept_from one.kernel one.object key first count bits one.kernel.protected) × (first_unread (kept_from one.kernel one.object key first count bits one.kernel.protected).faults one.name ≡ None)
 kept-keeps one key first count bits =
     subst (λ begun. Keeps one.kernel (kept_from one.kernel one.object key first count bits begun) × (first_unread (kept_from one.kernel one.object key first count bits begun).faults one.name ≡ None)) (sym one.agree.alone)
-    (record { told = refl; homes = λ name space h. h; differs = λ h. h }, one.agree.unread.none_queued)
+    (record { told = refl; homes = λ name space h. h; differs = λ moves h. h }, one.agree.unread.none_queued)
 
 no-hole : (one : Counterparts) (first count : ℕ) (now : Kernel) → is_every (λ page. contains one.space.object.protect page) first count ≡ true →
     noted_if (not (each_page one.kernel one.object.space first count (λ page. page.protect))) WriteProtectOverAHole now ≡ now
@@ -318,12 +329,12 @@ logged-seen {calls = calls} one thread page flags true space told it =
       leads = ap (λ k. under_way k (map open_of calls)) (same_Some one.kernel it.kernel it.taken);
       leaves = refl;
       name = refl;
-      home = same-home one one.kernel it.object (record { told = refl; homes = λ name space h. h; differs = λ h. h }) (ap (λ (k : Kernel). k.objects one.name) (same_Some one.kernel it.kernel it.taken) ∙ it.agree.named);
+      home = same-home one one.kernel it.object (record { told = refl; homes = λ name space h. h; differs = λ moves h. h }) (ap (λ (k : Kernel). k.objects one.name) (same_Some one.kernel it.kernel it.taken) ∙ it.agree.named);
       told = ap telling (sym (same_Some one.kernel it.kernel it.taken)) ∙ told;
-      differs = subst AreLate (same_Some one.kernel it.kernel it.taken);
+      differs = λ moves none. subst (AreExpected moves) (same_Some one.kernel it.kernel it.taken);
     }
 logged-seen {calls = calls} one thread page flags false space told it =
-    let kept = seen-keeps (one.kernel.objects one.name) _ _ one.kernel it.kernel (λ object. record { told = refl; homes = λ name space h. h; differs = λ h. h }) it.taken in
+    let kept = seen-keeps (one.kernel.objects one.name) _ _ one.kernel it.kernel (λ object. record { told = refl; homes = λ name space h. h; differs = λ moves h. h }) it.taken in
     record {
       steps = runs.Step.thread_sees thread one.name page flags ∷ [];
       last = record { space = space; kernel = it.kernel; name = one.name; object = it.object; agree = it.agree };
@@ -333,7 +344,7 @@ logged-seen {calls = calls} one thread page flags false space told it =
       name = refl;
       home = same-home one it.kernel it.object kept it.agree.named;
       told = kept.told ∙ told;
-      differs = kept.differs;
+      differs = λ moves none. kept.differs moves;
     }
 
 logged-made : {calls : List Pending} (one : Counterparts) (cpu thread : ℕ) (command : Command) (access : Access) → HasCalls calls one → Takes (makes access one thread command) (accessed_by access one.space cpu command) one.name →
@@ -395,18 +406,14 @@ unread-by-none (log.Remap from to len) = refl
 unread-by-none (log.Remove start end) = refl
 unread-by-none (log.Unmap start end) = refl
 
--- read(2) of a message
-abbrev pub read_ended : Descriptor → Noted → Ended
-read_ended on noted = record { call = call.Read on None; out = record { answer = Value 1; messages = message_of noted.message ∷ []; runs = [] } }
-
 pub read-logged : {calls : List Pending} (one : Counterparts) (key : ℕ) (on : Descriptor) (noted : Noted) (rest : List Noted) → AreBelow key calls → on.object ≡ one.name → HasCalls calls one → one.space.object.enabled ≡ true → one.space.object.faults ≡ noted ∷ rest →
-    Goes calls calls one (lines_of_calls key (read_call on (Some noted))) (record one.space { object = message_read one.space.object })
+    Goes calls calls one (lines_of_call key (read_call on noted.message)) (record one.space { object = message_read one.space.object })
 unfolding on_object
 read-logged {calls = calls} one key on noted rest below own told enabled first =
     let space = one.space in
     let took = fault-read space one.kernel key None one.name one.object None noted rest one.agree enabled first refl (unread-by-none (message_of noted.message)) in
-    let ended = read_ended on noted in
-    subst (Goes calls calls one (lines_of_calls key (ended ∷ []))) (sym (read-space space noted rest first))
+    let ended = read_call on noted.message in
+    subst (Goes calls calls one (lines_of_call key ended)) (sym (read-space space noted rest first))
     (logged-call one took.now took.new key ended one.object (requeued space rest space.object.events) (runs.Step.thread_queues took.thread ∷ []) below refl
     (under_way took.now (map open_of calls), ap (λ o. world_with (under_way one.kernel (map open_of calls)) o) took.queued, refl)
     (ap (λ n. of_object (took.now.objects n) (λ object. on_object took.now (handler_call key ended.call) n object ended.out ended.call)) own ∙ ap (λ o. of_object o (λ object. on_object took.now (handler_call key ended.call) one.name object ended.out ended.call)) took.named ∙ took.taken)
@@ -449,18 +456,20 @@ pub first-of : (holds : World → Type 0) (world : World) (steps : List Step) �
 first-of holds world [] all = all
 first-of holds world (step ∷ steps) all = all.0
 
+-- the events of the model are those that it has unread of the calls under way
+pub seen-quiet : (one : Counterparts) → HasCalls [] one → seen [] one.space ≡ one.space
+seen-quiet one quiet = λ i. record one.space { object = record one.space.object { events = sym (quiet-events one quiet) i } }
+
 -- a part of a log has such a run, after which these map calls are under way, of numbers below the next
 pub record Writes (before : List Pending) (one : Counterparts) (log : Written) (space : Space) : Type 0 where
   pub after : List Pending
-  pub goes : Goes before after one log.lines space
+  pub middle : Space
+  pub goes : Goes before after one log.lines middle
+  pub same : seen after middle ≡ space
   pub begun : log.begun ≡ map open_of after
   pub below : AreBelow log.key after
 
--- calls of a handler do
-abbrev pub writes-calls : {before : List Pending} (one : Counterparts) (key : ℕ) (calls : List Ended) (space : Space) → AreBelow key before → Goes before before one (lines_of_calls key calls) space → Writes before one (calls_written key (map open_of before) calls) space
-writes-calls {before = before} one key calls space below goes = record { after = before; goes = goes; begun = refl; below = still-below key (key + length calls) before (omega (arith)) below }
-
--- and one part after another
-pub then-writes : {before : List Pending} (one : Counterparts) (log more : Written) (space last : Space) → (first : Writes before one log space) → Writes first.after first.goes.last more last → Writes before one (then_written log more) last
-then-writes one log more space last first second =
-    record { after = second.after; goes = then-logged one log.lines more.lines space last first.goes second.goes; begun = second.begun; below = second.below }
+-- calls of a handler do, while none is under way
+abbrev pub writes-calls : (one : Counterparts) (key : ℕ) (calls : List Ended) (space : Space) → Goes [] [] one (lines_of_calls key calls) space → Writes [] one (calls_written key [] calls) space
+writes-calls one key calls space goes =
+    record { after = []; middle = space; goes = goes; same = subst (λ s. seen [] s ≡ s) goes.leaves (seen-quiet goes.last goes.told); begun = refl; below = tt }

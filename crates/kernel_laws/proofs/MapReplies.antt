@@ -15,7 +15,7 @@ use Rattle.mig_base.specs.declared.command.Reply.{Reply}
 use Rattle.mig_base.specs.declared.command.Reply.TheVariants.{At, Done, Refused}
 use Rattle.mig_base.specs.Flat.{mmap_reply, munmap_reply, reply_of}
 use Rattle.mig_base.specs.Pages.{remove_range, set_range}
-use Rattle.mig_base.specs.Ranges.{pages_of}
+use Rattle.foundation.specs.Ranges.{pages_of}
 use Rattle.mig_base.specs.Userfault.{is_watched}
 use Rattle.mig_base.proofs.ReplyLemmas.{mmap_inside, munmap_whole}
 use Rattle.mig_model.specs.Host.{host_changed, memory}
@@ -71,7 +71,7 @@ takes-range it cpu start len command reply is whole high some areas same sound =
     ends start count whole = omega (arith, whole)
 
 -- nothing is done
-takes-none : (it : MapCall) (cpu : ℕ) (command : Command) (rule : Option Kernel) → rule ≡ Some it.one.kernel → called it.one.space cpu command ≡ it.one.space → Takes rule (called it.one.space cpu command) it.one.name
+pub takes-none : (it : MapCall) (cpu : ℕ) (command : Command) (rule : Option Kernel) → rule ≡ Some it.one.kernel → called it.one.space cpu command ≡ it.one.space → Takes rule (called it.one.space cpu command) it.one.name
 takes-none it cpu command rule taken same =
     record { kernel = it.one.kernel; object = it.one.object; taken = taken; agree = subst (λ s. Agree s it.one.kernel it.one.name it.one.object) (sym same) it.one.agree }
 

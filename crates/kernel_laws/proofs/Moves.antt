@@ -2,7 +2,7 @@
 use Rattle.std.proofs.lemmas.Bool.Decides.{nat_tests}
 use Rattle.std.proofs.lemmas.Bool.{eqb-true, false≢true, not-true, or_from}
 use Rattle.std.proofs.lemmas.List.Folds.{list_any-append}
-use Rattle.std.proofs.lemmas.List.{append-nil}
+use Rattle.std.proofs.lemmas.List.{append-nil, append_assoc}
 use Rattle.std.proofs.lemmas.Option.{none-some, same_Some}
 use Rattle.std.proofs.Common.{◌≡◌, ℕ, ◌<◌, ◌≤◌, ◌+◌, ◌-◌, ◌*◌, ◌/◌, ◌&&◌, ◌||◌, Bool, true, false, not, cond, eqb, ltb, Option, Some, None, List, [], ◌∷◌, ◌++◌, length, map, arith, refl, sym, ap, subst, ◌∙◌}
 use Rattle.std.specs.Prelude.{Result, Ok, Err}
@@ -15,34 +15,37 @@ use Rattle.mig_base.specs.declared.message.Message.{Message}
 use Rattle.mig_base.specs.declared.effect.Effect.{Effect}
 use Rattle.mig_base.specs.declared.refusal.Refusal.{Refusal}
 use Rattle.mig_base.specs.declared.schedule.Step.{Step}
-use Rattle.mig_base.specs.Bits.{is_one}
-use Rattle.mig_base.specs.Commands.{is_access, page_of}
-use Rattle.mig_base.specs.Ranges.{in_range, pages_of}
-use Rattle.mig_base.specs.Tests.{is_empty}
-use Rattle.mig_base.specs.Userfault.{Noted, Object, changing, event_queued, is_registered, is_watched, message_read, next_message, next_of, read_by, rest_noted, waits_fault}
+use Rattle.foundation.specs.Bits.{is_one}
+use Rattle.mig_base.specs.Commands.{is_access, page_of, is_store}
+use Rattle.foundation.specs.Ranges.{in_range, pages_of}
+use Rattle.foundation.specs.Tests.{is_empty}
+use Rattle.mig_base.specs.Userfault.{Noted, Object, changing, event_queued, is_registered, is_watched, message_read, next_message, next_of, read_by, rest_noted, waits_fault, thread_id}
 use Rattle.mig_model.specs.Ioctls.{has_events}
 use Rattle.mig_model.specs.Migration.{World, next, outcome}
 use Rattle.mig_model.proofs.steps.StepLemmas.{next-refused}
-use Rattle.mig_model.specs.Space.{IsSoundSpace, Space, access_of, accessed, accessed_by, called, queued_by}
+use Rattle.mig_model.specs.Space.{IsSoundSpace, Space, access_of, accessed, accessed_by, called, queued_by, call_messages}
 use Rattle.mig_base.specs.Flat.{reply_of}
 use Rattle.mig_model.specs.Bounds.{IsMapping}
 use Rattle.mig_model.specs.Host.{memory}
 use Rattle.uffd_log.specs.declared.call.Call.{Call}
 use Rattle.uffd_log.specs.declared.call.Descriptor.{Descriptor}
-use Rattle.kernel_laws.specs.Maps.{answer_of_reply}
+use Rattle.kernel_laws.specs.Maps.{answer_of_reply, told_by}
 use Rattle.kernel_laws.proofs.QuietCalls.{quiet-writes}
 use Rattle.kernel_laws.proofs.Unmaps.{is-watched, some-below}
 use Rattle.kernel_rules.specs.Runs as runs
-use Rattle.kernel_rules.specs.Runs.{Event, Leads, begins, ends, lines_of}
-use Rattle.kernel_laws.specs.Agreement.{AreUntold, Counterparts}
-use Rattle.kernel_laws.specs.Logs.{Ended, Open, Written, calls_written, ends_of, event_written, is_followed, issue_written, keeps_off, keeps_off_all, lines_of_calls, map_call, map_written, read_call, read_written, under_way, wake_range}
-use Rattle.kernel_laws.proofs.Apart.{accessed-apart, called-apart, quiet-kept, same-queued, same-reply}
+use Rattle.kernel_rules.specs.Runs.{Event, Leads, begins, ends}
+use Rattle.kernel_laws.specs.Agreement.{Counterparts}
+use Rattle.kernel_laws.specs.Logs.{Ended, Open, Written, calls_written, ends_of, event_written, is_followed, issue_written, keeps_off, keeps_off_all, lines_of_calls, map_call, map_written, read_call, read_written, under_way, wake_range, is_last, is_remap, message_written, noted_by as noted_as, one_less, read_calls, told_now, unread_of, wakes_first, with_unread}
+use Rattle.kernel_laws.proofs.Apart.{accessed-apart, called-apart, quiet-kept, same-queued, same-reply, same-messages}
 use Rattle.kernel_laws.proofs.Beside.{begins_call, has_key, leads-beside, world_of}
 use Rattle.kernel_laws.proofs.DiscardRuns.{Discard, dropped_by, noted_by, pending_for, remove-read, then-from, waiting}
-use Rattle.kernel_laws.proofs.LogRuns.{Goes, Writes, accessed-logged, quiet-events, stays}
-use Rattle.kernel_laws.proofs.MapRuns.{IsFault, is-fault, message-logged, range-woken}
-use Rattle.kernel_laws.proofs.OpenCalls.{AreBelow, HasCalls, Pending, apart, begun_calls, none-begun, open_of, still-below, telling_of, unread-of}
+use Rattle.kernel_laws.proofs.LogRuns.{Goes, Writes, accessed-logged, quiet-events, stays, Differs, seen-quiet}
+use Rattle.kernel_laws.proofs.MapRuns.{IsFault, is-fault, message-logged, range-woken, MayCall}
+use Rattle.kernel_laws.proofs.OpenCalls.{AreBelow, HasCalls, Pending, apart, begun_calls, none-begun, open_of, still-below, ArePaired, seen}
 use Rattle.kernel_laws.proofs.States.{Free, Held, Next, any-begun, held, free}
+use Rattle.uffd_log.specs.declared.line.Answer.{Answer}
+use Rattle.kernel_laws.proofs.Tellings.{Telling}
+use Rattle.foundation.proofs.TestLemmas.{and_first, and_second}
 
 -- a step other than a command
 abbrev pub IsOther : Step → Type 0
@@ -55,7 +58,7 @@ pub wrote-next : {name home key : ℕ} {space : Space} {calls : List Pending} {o
 wrote-next written new at writes =
     let goes = writes.goes in
     record {
-      state = free writes.after goes.last (record { same = goes.leaves; told = goes.told; below = writes.below; own = at.own ∙ sym goes.name; there = at.there ∙ sym goes.home });
+      state = free writes.after goes.last (record { same = ap (seen writes.after) goes.leaves ∙ writes.same; told = goes.told; below = writes.below; own = at.own ∙ sym goes.name; there = at.there ∙ sym goes.home });
       begun = writes.begun;
       steps = goes.steps;
       whole = goes.whole;
@@ -66,7 +69,7 @@ wrote-next written new at writes =
 -- one begins
 pub begins-next : {name home key : ℕ} {space : Space} {calls : List Pending} {one : Counterparts} (it : Discard) → Free name home key space calls one → it.key ≡ key → it.home ≡ home → is_watched one.space.object (it.addr / 4096) (pages_of it.len) ≡ true →
     one.space.object.enabled ≡ true → has_events one.space.object ≡ true →
-    Next name home (under_way one.kernel (map open_of calls)) one (record { lines = begins (open_of (pending_for it)).made ∷ []; key = key + 1; begun = map open_of calls ++ open_of (pending_for it) ∷ [] }) (dropped_by it one.space)
+    Next name home (under_way one.kernel (map open_of calls)) one (record { lines = begins (open_of (pending_for it)).made ∷ []; key = key + 1; begun = map open_of calls ++ open_of (pending_for it) ∷ [] }) (dropped_by it space)
 begins-next {name = name} {home = home} {key = key} {calls = calls} {one = one} it at is its watched enabled asked =
     let none = ap (λ n. list_any (λ (p : Pending). eqb p.key n) calls) is ∙ apart key calls at.below in
     record {
@@ -76,7 +79,7 @@ begins-next {name = name} {home = home} {key = key} {calls = calls} {one = one} 
             later = [];
             is = sym (append-nil (begun_calls calls));
             none = ap (list_any (has_key it.key)) (append-nil (begun_calls calls)) ∙ sym (any-begun it.key calls) ∙ none;
-            same = refl;
+            same = ap (dropped_by it) at.same;
             told = at.told;
             below = still-below key (key + 1) calls (omega (arith)) at.below;
             low = next it.key key is;
@@ -91,7 +94,7 @@ begins-next {name = name} {home = home} {key = key} {calls = calls} {one = one} 
       steps = runs.Step.line (begins (open_of (pending_for it)).made) ∷ [];
       whole = refl;
       leads = (world_of one.kernel (begun_calls calls ++ waiting it ∷ []), (none-begun it.key calls none, refl), refl);
-      differs = λ h. h;
+      differs = λ moves none h. h;
     }
   where
     next : (a b : ℕ) → a ≡ b → a < b + 1
@@ -105,7 +108,7 @@ pub data Kept (on : Descriptor) (home key : ℕ) (begun : List Open) (written : 
   reads : (noted : Noted) → next_message old.object ≡ Some noted → written ≡ read_written on key begun (Some noted) → new ≡ record old { object = message_read old.object } → Kept on home key begun written old new
   tries : (cpu : ℕ) (command : Command) → is_access command ≡ true → keeps_off_all old command begun ≡ true → written ≡ calls_written key begun [] → new ≡ accessed old cpu command → is_one old.object.features 8 ≡ false →
       (contains old.object.protect (page_of command) ≡ true → contains old.object.missing (page_of command) ≡ true) → Kept on home key begun written old new
-  makes : (cpu : ℕ) (command : Command) → is_access command ≡ false → is_followed command ≡ true → keeps_off_all old command begun ≡ true → written ≡ issue_written home key begun old command (map_call command) → new ≡ called old cpu command →
+  makes : (cpu : ℕ) (command : Command) → is_access command ≡ false → is_followed command ≡ true → keeps_off_all old command begun ≡ true → written ≡ issue_written home key begun old cpu command (map_call command) → new ≡ called old cpu command →
       IsMapping old.host.areas → Kept on home key begun written old new
 
 -- by the outcome: a refused step does nothing
@@ -130,7 +133,7 @@ alike-held {it = it} at new same =
 
 -- a part of a run beside the call
 beside-next : {name home key : ℕ} {space : Space} {calls : List Pending} {one : Counterparts} {it : Discard} (written : Written) (new middle : Space) (after : List Pending) (lines : List Event) → (at : Held name home key space it calls one) → (goes : Goes calls after one lines middle) →
-    list_any (begins_call it.key) lines ≡ false → StaysHeld it middle.object → dropped_by it middle ≡ new → AreBelow written.key after → key ≤ written.key → written.lines ≡ lines → written.begun ≡ map open_of after ++ open_of (pending_for it) ∷ [] →
+    list_any (begins_call it.key) lines ≡ false → StaysHeld it middle.object → dropped_by it (seen after middle) ≡ new → AreBelow written.key after → key ≤ written.key → written.lines ≡ lines → written.begun ≡ map open_of after ++ open_of (pending_for it) ∷ [] →
     Next name home (world_of one.kernel (at.before ++ waiting it ∷ at.later)) one written new
 beside-next {one = one} {it = it} written new middle after lines at goes apart_lines kept same below less lines_are begun_is =
     let last = goes.last in
@@ -145,7 +148,7 @@ beside-next {one = one} {it = it} written new middle after lines at goes apart_l
             later = beside.later;
             is = beside.is;
             none = beside.none;
-            same = ap (dropped_by it) goes.leaves ∙ same;
+            same = ap (λ s. dropped_by it (seen after s)) goes.leaves ∙ same;
             told = goes.told;
             below = below;
             low = lower it.key _ _ at.low less;
@@ -160,7 +163,7 @@ beside-next {one = one} {it = it} written new middle after lines at goes apart_l
       steps = goes.steps;
       whole = goes.whole ∙ sym lines_are;
       leads = beside.leads;
-      differs = goes.differs;
+      differs = subst (λ l. Differs l one.kernel last.kernel) (sym lines_are) goes.differs;
     }
   where
     lower : (a b c : ℕ) → a < b → b ≤ c → a < c
@@ -176,57 +179,66 @@ calls-apart low key (ended ∷ calls) less = λ i. above low key less i || calls
   later : (low key : ℕ) → low < key → low < key + 1
   later low key h = omega (arith, h)
 
-ends-apart : (low : ℕ) (begun : List Open) → list_any (begins_call low) (ends_of begun) ≡ false
-ends-apart low [] = refl
-ends-apart low (one ∷ begun) = by (eqb one.left 1) where
-  by : (b : Bool) → list_any (begins_call low) (cond b (ends one.made.key one.out ∷ []) []) ≡ false
-  by true = refl
-  by false = refl
-
 -- what an event writes
-event-apart : (low key : ℕ) (begun : List Open) (calls : List Ended) → low < key → list_any (begins_call low) (ends_of begun ++ lines_of_calls key calls) ≡ false
-event-apart low key begun calls less =
-    list_any-append (begins_call low) (ends_of begun) (lines_of_calls key calls) ∙ or_from (list_any (begins_call low) (ends_of begun)) (list_any (begins_call low) (lines_of_calls key calls)) (ends-apart low begun) (calls-apart low key calls less)
+event-apart : (on : Descriptor) (low key : ℕ) (begun : List Open) → low < key → list_any (begins_call low) (event_written on key begun).lines ≡ false
+event-apart on low key [] less = refl
+event-apart on low key (one ∷ begun) less =
+    let reads = lines_of_calls key (read_calls on (told_now one)) in
+    let after = key + length (told_now one) in
+    let wakes = lines_of_calls after (wakes_first on (told_now one)) in
+    let test = begins_call low in
+    list_any-append test (reads ++ ends_of one) wakes
+    ∙ or_from (list_any test (reads ++ ends_of one)) (list_any test wakes)
+    (list_any-append test reads (ends_of one) ∙ or_from (list_any test reads) (list_any test (ends_of one)) (calls-apart low key (read_calls on (told_now one)) less) (no-begin (is_last one.unread)))
+    (calls-apart low after (wakes_first on (told_now one)) (later low key (length (told_now one)) less))
+  where
+    later : (low key n : ℕ) → low < key → low < key + n
+    later low key n h = omega (arith, h)
+
+    no-begin : (b : Bool) → list_any (begins_call low) (cond b (ends one.made.key one.out ∷ []) []) ≡ false
+    no-begin true = refl
+    no-begin false = refl
 
 read-apart : (on : Descriptor) (low key : ℕ) (begun : List Open) (noted : Noted) → low < key → list_any (begins_call low) (read_written on key begun (Some noted)).lines ≡ false
-read-apart on low key begun noted less =
-    let first = lines_of_calls key (read_call on (Some noted)) in
-    list_any-append (begins_call low) first (event_written on (key + 1) begun noted.message).lines
-    ∙ or_from (list_any (begins_call low) first) (list_any (begins_call low) (event_written on (key + 1) begun noted.message).lines) (calls-apart low key (read_call on (Some noted)) less) (by noted.message)
-  where
-    later : low < key + 1
-    later = omega (arith, less)
+read-apart on low key begun noted less = by noted.message where
+  by : (message : Message) → list_any (begins_call low) (message_written on key begun message).lines ≡ false
+  by (Message.PageFault addr write wp tid) = calls-apart low key (read_call on (Message.PageFault addr write wp tid) ∷ []) less
+  by (Message.Remap from to len) = event-apart on low key begun less
+  by (Message.Remove start end) = event-apart on low key begun less
+  by (Message.Unmap start end) = event-apart on low key begun less
 
-    by : (message : Message) → list_any (begins_call low) (event_written on (key + 1) begun message).lines ≡ false
-    by (Message.PageFault addr write wp tid) = refl
-    by (Message.Remap from to len) = event-apart low (key + 1) begun (wake_range on from len) later
-    by (Message.Remove start end) = event-apart low (key + 1) begun (wake_range on start (end - start)) later
-    by (Message.Unmap start end) = event-apart low (key + 1) begun (wake_range on start (end - start)) later
+event-grows : (on : Descriptor) (key : ℕ) (begun : List Open) → key ≤ (event_written on key begun).key
+event-grows on key [] = omega (arith)
+event-grows on key (one ∷ begun) = omega (arith)
 
 read-grows : (on : Descriptor) (key : ℕ) (begun : List Open) (noted : Noted) → key ≤ (read_written on key begun (Some noted)).key
 read-grows on key begun noted = by noted.message where
-  by : (message : Message) → key ≤ (event_written on (key + 1) begun message).key
+  by : (message : Message) → key ≤ (message_written on key begun message).key
   by (Message.PageFault addr write wp tid) = omega (arith)
-  by (Message.Remap from to len) = omega (arith)
-  by (Message.Remove start end) = omega (arith)
-  by (Message.Unmap start end) = omega (arith)
+  by (Message.Remap from to len) = event-grows on key begun
+  by (Message.Remove start end) = event-grows on key begun
+  by (Message.Unmap start end) = event-grows on key begun
 
 -- the same message beside the call
 abbrev read_beside : Descriptor → (key : ℕ) → List Pending → Open → Noted → Written
 read_beside on key calls extra noted = read_written on key (map open_of calls ++ extra ∷ []) (Some noted)
 
-lines-beside : (on : Descriptor) (key : ℕ) (calls : List Pending) (extra : Open) (noted : Noted) → (calls ≡ [] → IsFault noted.message) →
-    read_beside on key calls extra noted ≡ record (read_written on key (map open_of calls) (Some noted)) { begun = (read_written on key (map open_of calls) (Some noted)).begun ++ extra ∷ [] }
+abbrev with_extra : Written → Open → Written
+with_extra written extra = record written { begun = written.begun ++ extra ∷ [] }
+
+event-beside : (on : Descriptor) (key : ℕ) (one : Pending) (calls : List Pending) (extra : Open) → event_written on key (map open_of (one ∷ calls) ++ extra ∷ []) ≡ with_extra (event_written on key (map open_of (one ∷ calls))) extra
+event-beside on key one calls extra = λ i. record (event_written on key (map open_of (one ∷ calls))) { begun = sym (append_assoc (one_less (open_of one)) (map open_of calls) (extra ∷ [])) i }
+
+lines-beside : (on : Descriptor) (key : ℕ) (calls : List Pending) (extra : Open) (noted : Noted) → (calls ≡ [] → IsFault noted.message) → read_beside on key calls extra noted ≡ with_extra (read_written on key (map open_of calls) (Some noted)) extra
 lines-beside on key calls extra noted fault = by calls noted.message fault where
-  by : (calls : List Pending) (message : Message) → (calls ≡ [] → IsFault message) →
-      read_beside on key calls extra (record noted { message = message }) ≡ record (read_written on key (map open_of calls) (Some (record noted { message = message }))) { begun = (read_written on key (map open_of calls) (Some (record noted { message = message }))).begun ++ extra ∷ [] }
+  by : (calls : List Pending) (message : Message) → (calls ≡ [] → IsFault message) → message_written on key (map open_of calls ++ extra ∷ []) message ≡ with_extra (message_written on key (map open_of calls) message) extra
   by calls (Message.PageFault addr write wp tid) fault = refl
   by [] (Message.Remap from to len) fault = absurd (fault refl)
   by [] (Message.Remove start end) fault = absurd (fault refl)
   by [] (Message.Unmap start end) fault = absurd (fault refl)
-  by (one ∷ calls) (Message.Remap from to len) fault = refl
-  by (one ∷ calls) (Message.Remove start end) fault = refl
-  by (one ∷ calls) (Message.Unmap start end) fault = refl
+  by (one ∷ calls) (Message.Remap from to len) fault = event-beside on key one calls extra
+  by (one ∷ calls) (Message.Remove start end) fault = event-beside on key one calls extra
+  by (one ∷ calls) (Message.Unmap start end) fault = event-beside on key one calls extra
 
 -- What reads and accesses leave of the object
 
@@ -259,57 +271,64 @@ read-beside object message cpu noted [] (event ∷ events) none is next =
 read-beside object message cpu noted (fault ∷ faults) events is same next =
     ap (λ l. read_by l (event_queued object message cpu)) is ∙ sym (ap (λ l. event_queued (read_by l object) message cpu) is)
 
+-- the messages of an object aside
+seen-alike : (after calls : List Pending) (middle old : Space) {object : Object} → seen after middle ≡ record (seen calls old) { object = object } → Alike object (seen calls old).object → Alike middle.object old.object
+seen-alike after calls middle old {object = object} same alike =
+    let is : (seen after middle).object ≡ object = ap (λ (s : Space). s.object) same in
+    (λ i. record (is i) { faults = middle.object.faults; events = middle.object.events }) ∙ (λ i. record (alike i) { faults = middle.object.faults; events = middle.object.events })
+
 -- A message that was there before
 
-some-events : (one : Counterparts) (events : List Noted) (event : Noted) → HasCalls [] one → one.space.object.events ≡ event ∷ events → ⊥
-some-events one events event told is = false≢true (ap is_empty (sym is ∙ quiet-events one told))
-
 read-next : {name home key : ℕ} {space : Space} {calls : List Pending} {one : Counterparts} {it : Discard} (at : Held name home key space it calls one) (on : Descriptor) (noted : Noted) (faults events : List Noted) → on.object ≡ name →
-    one.space.object.faults ≡ faults → one.space.object.events ≡ events → next_of faults events ≡ Some noted → (calls ≡ [] → IsFault noted.message) →
+    one.space.object.faults ≡ faults → unread_of (map open_of calls) ≡ events → next_of faults events ≡ Some noted → (calls ≡ [] → IsFault noted.message) →
     Next name home (world_of one.kernel (at.before ++ waiting it ∷ at.later)) one (read_beside on key calls (open_of (pending_for it)) noted) (record space { object = message_read space.object })
 read-next {name = name} {home = home} {key = key} {space = space} {calls = calls} {one = one} {it = it} at on noted faults events own faults_are events_are next fault =
     let new = record space { object = message_read space.object } in
-    let middle = record one.space { object = message_read one.space.object } in
+    let was = seen calls one.space in
     let writes = message-logged one key on noted faults events at.below (own ∙ at.own) at.told at.enabled faults_are events_are next in
     let written = read_written on key (map open_of calls) (Some noted) in
     let extra = open_of (pending_for it) in
+    let alike : Alike writes.middle.object one.space.object = seen-alike writes.after calls writes.middle one.space (writes.same) (read-alike was.object) in
     subst (λ w. Next name home (world_of one.kernel (at.before ++ waiting it ∷ at.later)) one w new) (sym (lines-beside on key calls extra noted fault))
-    (beside-next (record written { begun = written.begun ++ extra ∷ [] }) new middle writes.after written.lines at writes.goes (read-apart on it.key key (map open_of calls) noted at.low) (alike-held at (message_read one.space.object) (read-alike one.space.object))
-    (ap (λ o. record (dropped_by it one.space) { object = o }) (sym (read-beside one.space.object (noted_by it).message it.cpu noted faults events faults_are events_are next))
+    (beside-next (record written { begun = written.begun ++ extra ∷ [] }) new writes.middle writes.after written.lines at writes.goes (read-apart on it.key key (map open_of calls) noted at.low) (alike-held at writes.middle.object alike)
+    (ap (dropped_by it) writes.same ∙ ap (λ o. record (dropped_by it was) { object = o }) (sym (read-beside was.object (noted_by it).message it.cpu noted faults events faults_are events_are next))
     ∙ ap (λ (s : Space). record s { object = message_read s.object }) at.same)
     writes.below (read-grows on key (map open_of calls) noted) refl (ap (λ b. b ++ extra ∷ []) writes.begun))
 
 -- Its own message
 
-no-calls : (key : ℕ) (calls : List Pending) (one : Counterparts) → AreBelow key calls → HasCalls calls one → one.space.object.events ≡ [] → calls ≡ []
-no-calls key [] one below told events = refl
-no-calls key (first ∷ calls) one below told events =
-    let unread = unread-of key one.name (first ∷ calls) [] below (subst (AreUntold one.name (telling_of one.name (first ∷ calls))) events (subst (λ k. AreUntold one.name k one.space.object.events) told one.agree.untold)) in
-    absurd (false≢true (ap is_empty unread))
+no-calls : (key : ℕ) (calls : List Pending) → AreBelow key calls → unread_of (map open_of calls) ≡ [] → calls ≡ []
+no-calls key [] below events = refl
+no-calls key (first ∷ calls) below events = absurd (some-left first.modelled (unread_of (map open_of calls)) first.unread below.2.paired events) where
+  some-left : (modelled more : List Noted) (unread : List Telling) → ArePaired modelled unread → modelled ++ more ≡ [] → ⊥
+  some-left [] more unread paired is = paired
+  some-left (noted ∷ modelled) more unread paired is = false≢true (ap is_empty is)
 
 both-none : {X : Type 0} (xs ys : List X) → xs ++ ys ≡ [] → (xs ≡ []) × (ys ≡ [])
 both-none [] ys is = (refl, is)
 both-none (x ∷ xs) ys is = absurd (false≢true (ap is_empty is))
 
-remove-next : {name home key : ℕ} {space : Space} {calls : List Pending} {one : Counterparts} {it : Discard} (at : Held name home key space it calls one) (on : Descriptor) → on.object ≡ name → IsSoundSpace space → one.space.object.faults ≡ [] → one.space.object.events ≡ [] →
+remove-next : {name home key : ℕ} {space : Space} {calls : List Pending} {one : Counterparts} {it : Discard} (at : Held name home key space it calls one) (on : Descriptor) → on.object ≡ name → IsSoundSpace space → one.space.object.faults ≡ [] → unread_of (map open_of calls) ≡ [] →
     Next name home (world_of one.kernel (at.before ++ waiting it ∷ at.later)) one (read_beside on key calls (open_of (pending_for it)) (noted_by it)) (record space { object = message_read space.object })
-remove-next {name = name} {home = home} {key = key} {space = space} {calls = calls} {one = one} {it = it} at on own sound faults events =
+remove-next {name = name} {home = home} {key = key} {space = space} {calls = calls} {one = one} {it = it} at on own sound faults unread =
     let new = record space { object = message_read space.object } in
     let stop = it.addr + 4096 * pages_of it.len in
-    let none = no-calls key calls one at.below at.told events in
+    let none = no-calls key calls at.below unread in
+    let quiet : HasCalls [] one = subst (λ c. HasCalls c one) none at.told in
+    let same : dropped_by it one.space ≡ space = ap (dropped_by it) (sym (seen-quiet one quiet)) ∙ ap (λ c. dropped_by it (seen c one.space)) (sym none) ∙ at.same in
     let alone = both-none at.before at.later (sym at.is ∙ ap begun_calls none) in
     let dropped = dropped_by it one.space in
     let middle = record dropped { object = message_read dropped.object } in
-    let first = remove-read it one key on at.low (own ∙ at.own) (subst (λ c. HasCalls c one) none at.told) (at.its ∙ at.there) at.enabled at.asked at.watched faults events (subst IsSoundSpace (sym at.same) sound) in
+    let first = remove-read it one key on at.low (own ∙ at.own) quiet (at.its ∙ at.there) at.enabled at.asked at.watched faults (quiet-events one quiet) (subst IsSoundSpace (sym same) sound) in
     let enabled = ap (λ (s : Space). s.object.enabled) first.leaves ∙ ap (λ (o : Object). o.enabled) (read-alike dropped.object) ∙ at.enabled in
     let wakes = range-woken first.last (key + 1) on it.addr stop tt (own ∙ at.own ∙ sym first.name) first.told enabled it.wakes in
     let more = lines_of_calls (key + 1) (wake_range on it.addr (stop - it.addr)) in
     let read = then-from one _ more middle middle first (subst (Goes [] [] first.last more) first.leaves wakes) in
+    let left = seen-quiet read.last read.told ∙ read.leaves ∙ ap (λ (s : Space). record s { object = message_read s.object }) same in
     subst (λ start. Next name home start one (read_beside on key calls (open_of (pending_for it)) (noted_by it)) new) (λ i. world_of one.kernel (sym alone.0 i ++ waiting it ∷ sym alone.1 i))
     (subst (λ c. Next name home (world_of one.kernel (waiting it ∷ [])) one (read_beside on key c (open_of (pending_for it)) (noted_by it)) new) (sym none)
     (record {
-      state = free [] read.last
-          (record { same = read.leaves ∙ ap (λ (s : Space). record s { object = message_read s.object }) at.same; told = read.told; below = tt; own = at.own ∙ sym read.name; there = at.there ∙ sym read.home });
+      state = free [] read.last (record { same = left; told = read.told; below = tt; own = at.own ∙ sym read.name; there = at.there ∙ sym read.home });
       begun = refl;
       steps = read.steps;
       whole = read.whole;
@@ -331,12 +350,32 @@ kept-last space command begun it off =
 kept-off : (space : Space) (command : Command) (begun : List Open) (it : Discard) → is_access command ≡ true → keeps_off_all space command (begun ++ open_of (pending_for it) ∷ []) ≡ true → in_range (it.addr / 4096) (pages_of it.len) (page_of command) ≡ false
 kept-off space command begun it access off =
     let inside = in_range (it.addr / 4096) (pages_of it.len) (page_of command) in
-    not-true inside (sym (ap (λ b. cond b (not inside) (eqb (queued_by space command) 0)) access) ∙ kept-last space command begun it off)
+    not-true inside (sym (ap (λ b. cond b (not inside) (eqb (queued_by space command) 0 && not (is_remap command (reply_of (memory space.host) command)))) access) ∙ kept-last space command begun it off)
 
-kept-quiet : (space : Space) (command : Command) (begun : List Open) (it : Discard) → is_access command ≡ false → keeps_off_all space command (begun ++ open_of (pending_for it) ∷ []) ≡ true → queued_by space command ≡ 0
+kept-quiet : (space : Space) (command : Command) (begun : List Open) (it : Discard) → is_access command ≡ false → keeps_off_all space command (begun ++ open_of (pending_for it) ∷ []) ≡ true →
+    (queued_by space command ≡ 0) × (is_remap command (reply_of (memory space.host) command) ≡ false)
 kept-quiet space command begun it access off =
     let inside = in_range (it.addr / 4096) (pages_of it.len) (page_of command) in
-    eqb-true (queued_by space command) 0 (sym (ap (λ b. cond b (not inside) (eqb (queued_by space command) 0)) access) ∙ kept-last space command begun it off)
+    let none = eqb (queued_by space command) 0 in
+    let moves = is_remap command (reply_of (memory space.host) command) in
+    let both = sym (ap (λ b. cond b (not inside) (none && not moves)) access) ∙ kept-last space command begun it off in
+    (eqb-true (queued_by space command) 0 (and_first none (not moves) both), not-true moves (and_second none (not moves) both))
+
+-- an access leaves the events
+pub seen-accessed : (calls : List Pending) (space : Space) (cpu : ℕ) (command : Command) → seen calls (accessed space cpu command) ≡ accessed (seen calls space) cpu command
+seen-accessed calls space cpu command = by (access_of space command) where
+  fault_more : Object → ℕ → Bool → Bool → Object
+  fault_more object addr write wp = record object { faults = object.faults ++ record { message = Message.PageFault addr write wp (thread_id object cpu); cpu = cpu } ∷ [] }
+
+  queued : (b : Bool) (addr : ℕ) (write wp : Bool) → with_unread (record space { object = cond b space.object (fault_more space.object addr write wp) }) (unread_of (map open_of calls))
+      ≡ record (seen calls space) { object = cond b (seen calls space).object (fault_more (seen calls space).object addr write wp) }
+  queued true addr write wp = refl
+  queued false addr write wp = refl
+
+  by : (access : Access) → seen calls (accessed_by access space cpu command) ≡ accessed_by access (seen calls space) cpu command
+  by (Answered reply) = refl
+  by Missing = queued (waits_fault space.object.faults (4096 * page_of command) false) (4096 * page_of command) (is_store command) false
+  by Protected = queued (waits_fault space.object.faults (4096 * page_of command) true) (4096 * page_of command) true true
 
 tries-next : {name home key : ℕ} {space : Space} {calls : List Pending} {one : Counterparts} {it : Discard} (at : Held name home key space it calls one) (cpu : ℕ) (command : Command) → is_access command ≡ true →
     keeps_off_all space command (map open_of calls ++ open_of (pending_for it) ∷ []) ≡ true → is_one space.object.features 8 ≡ false → (contains space.object.protect (page_of command) ≡ true → contains space.object.missing (page_of command) ≡ true) →
@@ -347,60 +386,78 @@ tries-next {key = key} {space = space} {calls = calls} {one = one} {it = it} at 
     accessed-logged one cpu command access at.told at.enabled (ap (λ (s : Space). is_one s.object.features 8) at.same ∙ unnamed)
     (λ h. ap (λ (s : Space). contains s.object.missing page) at.same ∙ watched (sym (ap (λ (s : Space). contains s.object.protect page) at.same) ∙ h)) in
     beside-next (calls_written key (map open_of calls ++ open_of (pending_for it) ∷ []) []) (accessed space cpu command) (accessed one.space cpu command) calls [] at goes refl (alike-held at (accessed one.space cpu command).object (accessed-alike one.space cpu command))
-    (sym (accessed-apart one.space (it.addr / 4096) (pages_of it.len) it.addr (it.addr + 4096 * pages_of it.len) it.cpu cpu command access (kept-off space command (map open_of calls) it access off)) ∙ ap (λ s. accessed s cpu command) at.same)
+    (ap (dropped_by it) (seen-accessed calls one.space cpu command)
+    ∙ sym (accessed-apart (seen calls one.space) (it.addr / 4096) (pages_of it.len) it.addr (it.addr + 4096 * pages_of it.len) it.cpu cpu command access (kept-off space command (map open_of calls) it access off)) ∙ ap (λ s. accessed s cpu command) at.same)
     (still-below key (key + 0) calls (omega (arith)) at.below) (omega (arith)) refl refl
 
 -- A map call that queues no message
 
-issue-apart : (low home key : ℕ) (begun : List Open) (space : Space) (command : Command) (made : Option Call) → queued_by space command ≡ 0 → low < key → list_any (begins_call low) (issue_written home key begun space command made).lines ≡ false
-issue-apart low home key begun space command None quiet less = refl
-issue-apart low home key begun space command (Some call) quiet less =
-    ap (λ n. list_any (begins_call low) (map_written home key begun n (answer_of_reply (reply_of (memory space.host) command)) call).lines) quiet ∙ ap (λ b. b || false) (above low key less)
-  where
-    above : (low key : ℕ) → low < key → eqb key low ≡ false
-    above low key h = grind (arith, nat_tests, h)
+no-messages : (messages : List Message) → length messages ≡ 0 → messages ≡ []
+no-messages [] none = refl
+no-messages (message ∷ messages) none = absurd (omega (arith, none))
 
-issue-beside : (home key : ℕ) (begun : List Open) (extra : Open) (space other : Space) (command : Command) → queued_by other command ≡ 0 → queued_by space command ≡ 0 → reply_of (memory space.host) command ≡ reply_of (memory other.host) command →
-    issue_written home key (begun ++ extra ∷ []) space command (map_call command) ≡ record (issue_written home key begun other command (map_call command)) { begun = (issue_written home key begun other command (map_call command)).begun ++ extra ∷ [] }
-issue-beside home key begun extra space other command quiet now same = by (map_call command) where
-  by : (made : Option Call) → issue_written home key (begun ++ extra ∷ []) space command made ≡ record (issue_written home key begun other command made) { begun = (issue_written home key begun other command made).begun ++ extra ∷ [] }
+abbrev at_once : (home key : ℕ) → List Open → Answer → Call → Written
+at_once home key begun answer call = map_written home key begun [] [] answer call
+
+-- it is written at once, whatever a kernel would have told
+issue-at-once : (home key : ℕ) (begun : List Open) (space : Space) (cpu : ℕ) (command : Command) (call : Call) → queued_by space command ≡ 0 →
+    issue_written home key begun space cpu command (Some call) ≡ at_once home key begun (answer_of_reply (reply_of (memory space.host) command)) call
+issue-at-once home key begun space cpu command call quiet =
+    let reply = reply_of (memory space.host) command in
+    ap (λ m. map_written home key begun (noted_as cpu m) (told_by space.object command reply) (answer_of_reply reply) call) (no-messages (call_messages space.object command reply) quiet)
+
+issue-apart : (low home key : ℕ) (begun : List Open) (space : Space) (cpu : ℕ) (command : Command) (made : Option Call) → queued_by space command ≡ 0 → low < key → list_any (begins_call low) (issue_written home key begun space cpu command made).lines ≡ false
+issue-apart low home key begun space cpu command None quiet less = refl
+issue-apart low home key begun space cpu command (Some call) quiet less = ap (λ (w : Written). list_any (begins_call low) w.lines) (issue-at-once home key begun space cpu command call quiet) ∙ ap (λ b. b || false) (above low key less) where
+  above : (low key : ℕ) → low < key → eqb key low ≡ false
+  above low key h = grind (arith, nat_tests, h)
+
+issue-beside : (home key : ℕ) (begun : List Open) (extra : Open) (space other : Space) (cpu : ℕ) (command : Command) → queued_by other command ≡ 0 → queued_by space command ≡ 0 → reply_of (memory space.host) command ≡ reply_of (memory other.host) command →
+    issue_written home key (begun ++ extra ∷ []) space cpu command (map_call command) ≡ with_extra (issue_written home key begun other cpu command (map_call command)) extra
+issue-beside home key begun extra space other cpu command quiet now same = by (map_call command) where
+  by : (made : Option Call) → issue_written home key (begun ++ extra ∷ []) space cpu command made ≡ with_extra (issue_written home key begun other cpu command made) extra
   by None = refl
   by (Some call) =
-      (λ i. map_written home key (begun ++ extra ∷ []) (now i) (answer_of_reply (same i)) call)
-      ∙ (λ i. record (map_written home key begun (sym quiet i) (answer_of_reply (reply_of (memory other.host) command)) call) { begun = (map_written home key begun (sym quiet i) (answer_of_reply (reply_of (memory other.host) command)) call).begun ++ extra ∷ [] })
+      issue-at-once home key (begun ++ extra ∷ []) space cpu command call now
+      ∙ ap (λ r. at_once home key (begun ++ extra ∷ []) (answer_of_reply r) call) same
+      ∙ ap (λ w. with_extra w extra) (sym (issue-at-once home key begun other cpu command call quiet))
 
-issue-grows : (home key : ℕ) (begun : List Open) (space : Space) (command : Command) (made : Option Call) → queued_by space command ≡ 0 → key ≤ (issue_written home key begun space command made).key
-issue-grows home key begun space command None quiet = omega (arith)
-issue-grows home key begun space command (Some call) quiet = subst (λ n. key ≤ (map_written home key begun n (answer_of_reply (reply_of (memory space.host) command)) call).key) (sym quiet) (more key) where
+issue-grows : (home key : ℕ) (begun : List Open) (space : Space) (cpu : ℕ) (command : Command) (made : Option Call) → queued_by space command ≡ 0 → key ≤ (issue_written home key begun space cpu command made).key
+issue-grows home key begun space cpu command None quiet = omega (arith)
+issue-grows home key begun space cpu command (Some call) quiet = subst (λ (w : Written). key ≤ w.key) (sym (issue-at-once home key begun space cpu command call quiet)) (more key) where
   more : (key : ℕ) → key ≤ key + 1
   more key = omega (arith)
 
 makes-next : {name home key : ℕ} {space : Space} {calls : List Pending} {one : Counterparts} {it : Discard} (at : Held name home key space it calls one) (cpu : ℕ) (command : Command) → is_access command ≡ false → is_followed command ≡ true →
     keeps_off_all space command (map open_of calls ++ open_of (pending_for it) ∷ []) ≡ true → IsMapping space.host.areas →
-    Next name home (world_of one.kernel (at.before ++ waiting it ∷ at.later)) one (issue_written home key (map open_of calls ++ open_of (pending_for it) ∷ []) space command (map_call command)) (called space cpu command)
+    Next name home (world_of one.kernel (at.before ++ waiting it ∷ at.later)) one (issue_written home key (map open_of calls ++ open_of (pending_for it) ∷ []) space cpu command (map_call command)) (called space cpu command)
 makes-next {name = name} {home = home} {key = key} {space = space} {calls = calls} {one = one} {it = it} at cpu command access followed off mapping =
     let first = it.addr / 4096 in
     let count = pages_of it.len in
     let stop = it.addr + 4096 * count in
     let extra = open_of (pending_for it) in
     let own = one.object.space in
+    let was = seen calls one.space in
     let now = kept-quiet space command (map open_of calls) it access off in
-    let quiet = sym (same-queued one.space first count it.addr stop it.cpu command access) ∙ ap (λ s. queued_by s command) at.same ∙ now in
-    let same = ap (λ (s : Space). reply_of (memory s.host) command) (sym at.same) ∙ same-reply one.space first count command access in
-    let writes = quiet-writes one key cpu command at.below at.told at.enabled at.asked (subst (λ (s : Space). IsMapping s.host.areas) (sym at.same) mapping) access followed quiet in
-    let written = issue_written own key (map open_of calls) one.space command (map_call command) in
-    let kept = quiet-kept one.space cpu command followed quiet in
+    let quiet = sym (same-queued was first count it.addr stop it.cpu command access) ∙ ap (λ s. queued_by s command) at.same ∙ now.0 in
+    let same = ap (λ (s : Space). reply_of (memory s.host) command) (sym at.same) ∙ same-reply was first count command access in
+    let stays = ap (is_remap command) (sym same) ∙ now.1 in
+    let may : MayCall calls one key = record { below = at.below; told = at.told; enabled = at.enabled; asked = at.asked; mapping = subst (λ (s : Space). IsMapping s.host.areas) (sym at.same) mapping } in
+    let writes = quiet-writes one key cpu command may access followed (sym (ap length (same-messages one.space.object (unread_of (map open_of calls)) command (reply_of (memory one.space.host) command))) ∙ quiet) in
+    let written = issue_written own key (map open_of calls) was cpu command (map_call command) in
+    let kept = quiet-kept was cpu command stays quiet in
     let found = some-below (λ i. is_registered one.space.object (first + i)) count at.watched in
-    let after : StaysHeld it (called one.space cpu command).object =
+    let left = ap (λ (s : Space). s.object) writes.same in
+    let after : StaysHeld it writes.middle.object =
     record {
-      watched = is-watched (called one.space cpu command) first count (first + found.0) (low first found.0) (high first found.0 count found.1) (kept.2 (first + found.0) found.2);
-      enabled = kept.0 ∙ at.enabled;
-      asked = ap (λ n. is_one n 2 && is_one n 3 && is_one n 6) kept.1 ∙ at.asked;
+      watched = is-watched writes.middle first count (first + found.0) (low first found.0) (high first found.0 count found.1) (ap (λ (o : Object). is_registered o (first + found.0)) left ∙ kept.2 (first + found.0) found.2);
+      enabled = ap (λ (o : Object). o.enabled) left ∙ kept.0 ∙ at.enabled;
+      asked = ap (λ (o : Object). has_events o) left ∙ ap (λ n. is_one n 2 && is_one n 3 && is_one n 6) kept.1 ∙ at.asked;
     } in
     subst (λ w. Next name home (world_of one.kernel (at.before ++ waiting it ∷ at.later)) one w (called space cpu command))
-    (sym (ap (λ n. issue_written n key (map open_of calls ++ extra ∷ []) space command (map_call command)) at.there ∙ issue-beside own key (map open_of calls) extra space one.space command quiet now same))
-    (beside-next (record written { begun = written.begun ++ extra ∷ [] }) (called space cpu command) (called one.space cpu command) writes.after written.lines at writes.goes (issue-apart it.key own key (map open_of calls) one.space command (map_call command) quiet at.low)
-    after (sym (called-apart one.space first count it.addr stop it.cpu cpu command access followed quiet) ∙ ap (λ s. called s cpu command) at.same) writes.below (issue-grows own key (map open_of calls) one.space command (map_call command) quiet) refl
+    (sym (ap (λ n. issue_written n key (map open_of calls ++ extra ∷ []) space cpu command (map_call command)) at.there ∙ issue-beside own key (map open_of calls) extra space was cpu command quiet now.0 same))
+    (beside-next (record written { begun = written.begun ++ extra ∷ [] }) (called space cpu command) writes.middle writes.after written.lines at writes.goes (issue-apart it.key own key (map open_of calls) was cpu command (map_call command) quiet at.low)
+    after (ap (dropped_by it) writes.same ∙ sym (called-apart was first count it.addr stop it.cpu cpu command access stays quiet) ∙ ap (λ s. called s cpu command) at.same) writes.below (issue-grows own key (map open_of calls) was cpu command (map_call command) quiet) refl
     (ap (λ b. b ++ extra ∷ []) writes.begun))
   where
     low : (first i : ℕ) → first ≤ first + i
@@ -418,7 +475,7 @@ idle-next {key = key} {calls = calls} {one = one} {it = it} at new same =
 
 -- its REMOVE is unread
 pub held-changing : {name home key : ℕ} {space : Space} {calls : List Pending} {one : Counterparts} {it : Discard} → Held name home key space it calls one → ltb 0 (changing space.object) ≡ true
-held-changing {one = one} {it = it} at = sym (ap (λ (s : Space). ltb 0 (changing s.object)) at.same) ∙ more one.space.object.events (noted_by it) where
+held-changing {calls = calls} {it = it} at = sym (ap (λ (s : Space). ltb 0 (changing s.object)) at.same) ∙ more (unread_of (map open_of calls)) (noted_by it) where
   more : (events : List Noted) (last : Noted) → ltb 0 (length (events ++ last ∷ [])) ≡ true
   more [] last = refl
   more (event ∷ events) last = grind (arith, nat_tests)
@@ -429,7 +486,7 @@ held-next {name = name} {home = home} {one = one} {it = it} at on written new ow
 held-next {name = name} {home = home} {key = key} {space = space} {calls = calls} {one = one} {it = it} at on written new own sound (makes cpu command access followed off is same mapping) =
     let start = world_of one.kernel (at.before ++ waiting it ∷ at.later) in
     subst (λ w. Next name home start one w new) (sym is)
-    (subst (λ s. Next name home start one (issue_written home key (map open_of calls ++ open_of (pending_for it) ∷ []) space command (map_call command)) s) (sym same) (makes-next at cpu command access followed off mapping))
+    (subst (λ s. Next name home start one (issue_written home key (map open_of calls ++ open_of (pending_for it) ∷ []) space cpu command (map_call command)) s) (sym same) (makes-next at cpu command access followed off mapping))
 held-next {name = name} {home = home} {key = key} {space = space} {calls = calls} {one = one} {it = it} at on written new own sound (tries cpu command access off is same unnamed watched) =
     let start = world_of one.kernel (at.before ++ waiting it ∷ at.later) in
     subst (λ w. Next name home start one w new) (sym is)
@@ -438,16 +495,16 @@ held-next {name = name} {home = home} {key = key} {space = space} {calls = calls
     let start = world_of one.kernel (at.before ++ waiting it ∷ at.later) in
     subst (λ w. Next name home start one w new) (sym is)
     (subst (λ s. Next name home start one (read_beside on key calls (open_of (pending_for it)) noted) s) (sym same)
-    (by one.space.object.faults one.space.object.events refl refl (ap (λ (s : Space). next_message s.object) at.same ∙ next)))
+    (by one.space.object.faults (unread_of (map open_of calls)) refl refl (ap (λ (s : Space). next_message s.object) at.same ∙ next)))
   where
-    by : (faults events : List Noted) → one.space.object.faults ≡ faults → one.space.object.events ≡ events → next_message (dropped_by it one.space).object ≡ Some noted →
+    by : (faults events : List Noted) → one.space.object.faults ≡ faults → unread_of (map open_of calls) ≡ events → next_message (dropped_by it (seen calls one.space)).object ≡ Some noted →
         Next name home (world_of one.kernel (at.before ++ waiting it ∷ at.later)) one (read_beside on key calls (open_of (pending_for it)) noted) (record space { object = message_read space.object })
     by [] [] none nothing first =
         let mine : noted_by it ≡ noted = same_Some (noted_by it) noted (sym (λ i. next_of (none i) (nothing i ++ noted_by it ∷ [])) ∙ first) in
         subst (λ n. Next name home (world_of one.kernel (at.before ++ waiting it ∷ at.later)) one (read_beside on key calls (open_of (pending_for it)) n) (record space { object = message_read space.object })) mine
         (remove-next at on own sound none nothing)
     by [] (event ∷ events) none are first =
-        read-next at on noted [] (event ∷ events) own none are (sym (λ i. next_of (none i) (are i ++ noted_by it ∷ [])) ∙ first) (λ quiet. absurd (some-events one events event (subst (λ c. HasCalls c one) quiet at.told) are))
+        read-next at on noted [] (event ∷ events) own none are (sym (λ i. next_of (none i) (are i ++ noted_by it ∷ [])) ∙ first) (λ quiet. absurd (false≢true (sym (ap is_empty are) ∙ ap (λ c. is_empty (unread_of (map open_of c))) quiet)))
     by (fault ∷ faults) events are rest first =
-        let found : Some fault ≡ Some noted = sym (λ i. next_of (are i) (one.space.object.events ++ noted_by it ∷ [])) ∙ first in
+        let found : Some fault ≡ Some noted = sym (λ i. next_of (are i) (unread_of (map open_of calls) ++ noted_by it ∷ [])) ∙ first in
         read-next at on noted (fault ∷ faults) events own are rest found (λ quiet. is-fault one noted faults (are ∙ ap (λ n. n ∷ faults) (same_Some fault noted found)))

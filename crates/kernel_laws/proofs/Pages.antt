@@ -5,10 +5,10 @@ use Rattle.std.proofs.Common.{◌≡◌, ◌⊎◌, inl, inr, ℕ, zero, suc, �
 use Rattle.std.specs.Prelude.{unwrap_or}
 use Rattle.std.specs.FinMap.{contains_key}
 use Rattle.std.specs.FinSet.{contains}
-use Rattle.mig_base.specs.Ranges.{in_range, least_below}
+use Rattle.foundation.specs.Ranges.{in_range, least_below}
 use Rattle.mig_base.specs.Userfault.{is_registered}
 use Rattle.mig_base.proofs.SetLemmas.{member_below}
-use Rattle.mig_base.proofs.TestLemmas.{below_or_at}
+use Rattle.foundation.proofs.TestLemmas.{below_or_at}
 use Rattle.mig_model.specs.Ioctls.{installed}
 use Rattle.mig_model.specs.Space.{IsSoundSpace, Space}
 use Rattle.mig_model.proofs.memory.IoctlLemmas.{get-put_pages}

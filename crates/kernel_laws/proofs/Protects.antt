@@ -7,13 +7,13 @@ use Rattle.std.specs.FinMap.{contains_key}
 use Rattle.std.specs.FinSet.{contains}
 use Rattle.mig_base.specs.declared.command.Errno.{Errno}
 use Rattle.mig_base.specs.declared.wake.Wake.TheVariants.{Nobody, Range}
-use Rattle.mig_base.specs.Bits.{is_one}
-use Rattle.mig_base.specs.Ranges.{in_range}
-use Rattle.mig_base.specs.Tests.{first_holding, is_every}
+use Rattle.foundation.specs.Bits.{is_one}
+use Rattle.foundation.specs.Ranges.{in_range}
+use Rattle.foundation.specs.Tests.{first_holding, is_every}
 use Rattle.mig_base.specs.Userfault.{changing}
-use Rattle.mig_base.proofs.RangeLemmas.{in_range_bounds, none_below-from, none_below-not}
+use Rattle.foundation.proofs.RangeLemmas.{in_range_bounds, none_below-from, none_below-not}
 use Rattle.mig_base.proofs.SetLemmas.{member_below}
-use Rattle.mig_base.proofs.TestLemmas.{eqb-self}
+use Rattle.foundation.proofs.TestLemmas.{eqb-self}
 use Rattle.mig_model.specs.Ioctls.{answered_by, is_bad_range, left_by, protected_in, write_protected, writeprotect_answer}
 use Rattle.mig_model.specs.Space.{IsSoundSpace, Space}
 use Rattle.mig_model.proofs.memory.IoctlLemmas.{IsSoundSpace-protected, every_page}

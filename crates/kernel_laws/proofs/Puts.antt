@@ -6,13 +6,13 @@ use Rattle.std.specs.Prelude.{unwrap_or}
 use Rattle.std.specs.FinMap.{contains_key}
 use Rattle.std.specs.FinSet.{contains}
 use Rattle.mig_base.specs.declared.command.Errno.{Errno}
-use Rattle.mig_base.specs.Bits.{is_one}
-use Rattle.mig_base.specs.Ranges.{in_range, least_below}
-use Rattle.mig_base.specs.Tests.{same_bool}
+use Rattle.foundation.specs.Bits.{is_one}
+use Rattle.foundation.specs.Ranges.{in_range, least_below}
+use Rattle.foundation.specs.Tests.{same_bool}
 use Rattle.mig_base.specs.Userfault.{is_registered}
-use Rattle.mig_base.proofs.RangeLemmas.{in_range-end, in_range-none, in_range_bounds, least_below_tells, none_below-from}
+use Rattle.foundation.proofs.RangeLemmas.{in_range-end, in_range-none, in_range_bounds, least_below_tells, none_below-from}
 use Rattle.mig_base.proofs.SetSizes.{only_where}
-use Rattle.mig_base.proofs.TestLemmas.{and_first, and_second, eqb-self}
+use Rattle.foundation.proofs.TestLemmas.{and_first, and_second, eqb-self}
 use Rattle.mig_model.specs.Ioctls.{installed, is_one_area, missing_run, put_answer, same_area, stop_error}
 use Rattle.mig_model.specs.Space.{IsSoundSpace, Space}
 use Rattle.mig_model.proofs.memory.Registering.{pages_again}

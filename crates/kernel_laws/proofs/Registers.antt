@@ -9,13 +9,14 @@ use Rattle.std.specs.FinSet.{contains}
 use Rattle.mig_base.specs.declared.TheConstants.{HIGH_PAGE}
 use Rattle.mig_base.specs.declared.command.Errno.{Errno}
 use Rattle.mig_base.specs.declared.wake.Wake.TheVariants.{Range}
-use Rattle.mig_base.specs.Bits.{is_one}
-use Rattle.mig_base.specs.Ranges.{in_range, none_below}
-use Rattle.mig_base.specs.Tests.{first_holding, is_every, same_bool}
-use Rattle.mig_base.specs.Userfault.{Mode, enabled_with, has_modes, is_registered, unregistered}
-use Rattle.mig_base.proofs.RangeLemmas.{none_below-from, none_below_tells}
+use Rattle.foundation.specs.Bits.{is_one}
+use Rattle.foundation.specs.Ranges.{in_range, none_below}
+use Rattle.foundation.specs.Tests.{first_holding, is_every, same_bool}
+use Rattle.foundation.specs.Modes.{Mode}
+use Rattle.mig_base.specs.Userfault.{enabled_with, has_modes, is_registered, unregistered}
+use Rattle.foundation.proofs.RangeLemmas.{none_below-from, none_below_tells}
 use Rattle.mig_base.proofs.SetLemmas.{member_below, member_without}
-use Rattle.mig_base.proofs.TestLemmas.{eqb-self}
+use Rattle.foundation.proofs.TestLemmas.{eqb-self}
 use Rattle.mig_model.specs.Ioctls.{answered_by, handshake_answer, handshaken, has_events, has_unknown, is_bad_mode, is_bad_range, is_bare, is_feature, left_by, mode_of, range_unregistered, register_error, registered, registered_in, unregister_answer, unregistered_in}
 use Rattle.mig_model.specs.Space.{IsSoundSpace, Space}
 use Rattle.mig_model.proofs.memory.IoctlLemmas.{IsSoundSpace-enabled, IsSoundSpace-range_unregistered, IsSoundSpace-registered, below_high, every_page}

@@ -5,9 +5,9 @@ use Rattle.std.proofs.lemmas.List.Concat.{flat_map-cons}
 use Rattle.std.proofs.Common.{◌≡◌, ℕ, ◌&&◌, ◌||◌, Bool, true, false, not, cond, eqb, Option, Some, None, List, [], ◌∷◌, ◌++◌, filter, map, arith, refl, sym, ap, ◌∙◌}
 use Rattle.std.specs.Prelude.{is_some}
 use Rattle.std.specs.List.{flat_map, list_any}
-use Rattle.mig_base.specs.Tests.{is_empty}
+use Rattle.foundation.specs.Tests.{is_empty}
 use Rattle.mig_base.specs.Userfault.{Noted}
-use Rattle.mig_base.proofs.TestLemmas.{and_first, and_second}
+use Rattle.foundation.proofs.TestLemmas.{and_first, and_second}
 use Rattle.uffd_log.specs.declared.call.Message.{Message as LogMessage}
 use Rattle.kernel_rules.specs.declared.calling.Span.{Span}
 use Rattle.kernel_rules.specs.declared.calling.Told.{Told}

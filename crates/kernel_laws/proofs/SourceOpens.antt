@@ -10,12 +10,12 @@ use Rattle.mig_base.specs.declared.command.Command.{Command}
 use Rattle.mig_base.specs.declared.command.Reply.{Reply}
 use Rattle.mig_base.specs.declared.message.Message.{Message}
 use Rattle.mig_base.specs.declared.schedule.Step.{Step}
-use Rattle.mig_base.specs.Bits.{is_one}
-use Rattle.mig_base.specs.Ranges.{none_below}
+use Rattle.foundation.specs.Bits.{is_one}
+use Rattle.foundation.specs.Ranges.{none_below}
 use Rattle.mig_base.specs.Commands.{is_access, is_store, page_of}
 use Rattle.mig_base.specs.Flat.{reply_of}
 use Rattle.mig_base.specs.Userfault.{Noted, Object, event_queued}
-use Rattle.mig_base.proofs.TestLemmas.{eqb-self}
+use Rattle.foundation.proofs.TestLemmas.{eqb-self}
 use Rattle.mig_model.specs.Host.{memory}
 use Rattle.mig_model.specs.Ioctls.{all_features}
 use Rattle.mig_model.specs.Invariant.{IsSoundWorld}
@@ -38,7 +38,7 @@ use Rattle.kernel_rules.specs.State.{Kernel, allowed, fresh_kernel, of_object, w
 use Rattle.kernel_laws.specs.Agreement.{Agree, AreUnread, AreUntold, Counterparts, features_of, telling}
 use Rattle.kernel_laws.specs.Logs.{AreFollowed, Beginning, HasRun, IsLogged, IsUnreleased, Watching, answered, at_rest, log_of, source, source_left, source_log, under_way, unnamed, unnamed_features, unnamed_noted}
 use Rattle.kernel_laws.proofs.FirstCalls.{opened_kernel, opened_object, opens}
-use Rattle.kernel_laws.proofs.LogRuns.{agree-returned, call-leads, call_steps, leads-append}
+use Rattle.kernel_laws.proofs.LogRuns.{agree-returned, call-leads, call_steps, leads-append, seen-quiet}
 use Rattle.kernel_laws.proofs.SourceRuns.{IsBare, always, bare-idle, is-idle, source-logged}
 use Rattle.kernel_laws.proofs.States.{free, logged-from}
 use Rattle.kernel_laws.proofs.Unnamed.{sound-unnamed}
@@ -184,5 +184,5 @@ source-has-log it steps followed kept = opened-run it steps (source_left it step
 pub source-always-has-log : (it : Beginning) (steps : List Step) → AreFollowed (source it.by 0) 2 [] it.world steps → (space : Space) × HasRun (source_log it steps) space
 source-always-has-log it steps followed =
     let at = watched-from it in
-    let ends = always it.by 0 it.world 2 (free [] at.one (record { same = at.same; told = at.quiet; below = tt; own = at.own; there = refl })) steps (it.reached, idle_unreleased it.world.source.phase it.idle) followed in
+    let ends = always it.by 0 it.world 2 (free [] at.one (record { same = seen-quiet at.one at.quiet ∙ at.same; told = at.quiet; below = tt; own = at.own; there = refl })) steps (it.reached, idle_unreleased it.world.source.phase it.idle) followed in
     (ends.0, opened-run it steps ends.0 (logged-from at.one it.by.on.object (log_of (source it.by 0) 2 [] it.world steps) ends.0 refl ends.1))

@@ -1,7 +1,7 @@
 -- The log of a source without map calls has a run, step by step.
 use Rattle.std.proofs.lemmas.Bool.Decides.{nat_tests}
 use Rattle.std.proofs.lemmas.Bool.{false≢true}
-use Rattle.std.proofs.Common.{◌≡◌, ◌⊎◌, inl, inr, ℕ, ◌+◌, ◌*◌, ◌/◌, ◌^◌, ◌||◌, Bool, true, false, not, cond, eqb, leb, ltb, Some, List, [], ◌∷◌, ◌++◌, map, arith, refl, sym, ap, subst, ◌∙◌, IsOk}
+use Rattle.std.proofs.Common.{◌≡◌, ◌⊎◌, inl, inr, ℕ, ◌+◌, ◌*◌, ◌/◌, ◌^◌, ◌||◌, Bool, true, false, not, cond, eqb, leb, ltb, Some, List, [], ◌∷◌, ◌++◌, map, arith, refl, sym, ap, subst, ◌∙◌, IsOk, length}
 use Rattle.std.specs.Prelude.{Result, Ok, Err}
 use Rattle.std.specs.FinMap.{contains_key}
 use Rattle.std.specs.FinSet.{contains}
@@ -20,13 +20,12 @@ use Rattle.mig_base.specs.declared.schedule.Step.{Step}
 use Rattle.mig_base.specs.declared.wake.Wake.{Wake}
 use Rattle.mig_base.specs.declared.wake.Wake.TheVariants.{Nobody, Range}
 use Rattle.mig_base.specs.Acts.{act_effect}
-use Rattle.mig_base.specs.Bits.{is_one}
+use Rattle.foundation.specs.Bits.{is_one}
 use Rattle.mig_base.specs.Commands.{is_access, page_of}
-use Rattle.mig_base.specs.Flat.{dontneed_reply, is_all_mapped, is_page_start, mmap_reply, munmap_reply, reply_of}
-use Rattle.mig_base.specs.Ranges.{lesser, pages_of, rounded}
-use Rattle.mig_base.proofs.TestLemmas.{and_first, and_second}
-use Rattle.mig_base.specs.Userfault.{Noted, Object as ModelObject, is_registered, is_watched, message_read, next_message, unregistered}
-use Rattle.mig_model.specs.Bounds.{IsMapping}
+use Rattle.mig_base.specs.Flat.{dontneed_reply, is_all_mapped, is_page_start, mmap_reply, munmap_reply, reply_of, mremap_reply}
+use Rattle.foundation.specs.Ranges.{lesser, pages_of, rounded}
+use Rattle.foundation.proofs.TestLemmas.{and_first, and_second}
+use Rattle.mig_base.specs.Userfault.{Noted, Object as ModelObject, is_watched, message_read, next_message, unregistered, event_queued}
 use Rattle.mig_model.specs.Cpus.{outstanding, processor_at}
 use Rattle.mig_model.specs.Guest.{Guest, is_changing, space_by, tried}
 use Rattle.mig_model.specs.Handlers.{AreRegistered, IsWriteProtect, MayRegister, registered_in_turn}
@@ -34,10 +33,10 @@ use Rattle.mig_model.specs.Host.{memory}
 use Rattle.mig_model.specs.Ioctls.{all_features, writeprotect_error}
 use Rattle.mig_model.specs.Destination.{Destination}
 use Rattle.mig_model.specs.Invariant.{IsSoundWorld, RanAt, SwitchedAt, Wires}
-use Rattle.mig_model.specs.Migration.{World, guest_by, guest_of, next, outcome, with_guest_by}
+use Rattle.mig_model.specs.Migration.{World, guest_by, next, outcome, with_guest_by}
 use Rattle.mig_model.specs.Promises.{IsReached}
 use Rattle.mig_model.specs.Source.{Source, bytes_of, is_precopy, is_released, is_source_idle, source_acted_by, source_took}
-use Rattle.mig_model.specs.Space.{Space, accessed, all_queued, called, message_if}
+use Rattle.mig_model.specs.Space.{Space, accessed, all_queued, called, message_if, call_messages, modes_after}
 use Rattle.mig_model.specs.Wire.{Frame, Sent, is_zeros}
 use Rattle.mig_model.proofs.completion.StaysComplete.{complete-next}
 use Rattle.mig_model.proofs.invariant.Bounded.{bounded-reached, memory_bounded}
@@ -47,7 +46,6 @@ use Rattle.mig_model.proofs.memory.HandlerCalls.{page_protected, round_registers
 use Rattle.mig_model.proofs.steps.PartsChanged.{changes_parts}
 use Rattle.mig_model.proofs.steps.ReachedLemmas.{reached-next}
 use Rattle.mig_model.proofs.steps.StepCases.{made-effect, made-next}
-use Rattle.mig_model.proofs.steps.StepLemmas.{next-refused}
 use Rattle.mig_model.proofs.transcript.WaitingAccesses.{are_accesses}
 use Rattle.uffd_log.specs.declared.call.Descriptor.{Descriptor}
 use Rattle.uffd_log.specs.declared.call.Call.TheVariants as call
@@ -57,33 +55,31 @@ use Rattle.kernel_rules.specs.Runs as runs
 use Rattle.kernel_rules.specs.Runs.{Leads}
 use Rattle.kernel_rules.specs.State.{Kernel}
 use Rattle.kernel_laws.specs.Agreement.{Agree, Counterparts}
-use Rattle.kernel_laws.specs.Logs.{AreFollowed, AreLogged, Ended, IsFollowed, IsUnreleased, Open, Watch, Watching, Written, answered, calls_written, cleared, is_followed, issue_written, keeps_off_all, lines_of_calls, log_of, map_call, protect_call, read_written, register_calls, resolve_call, source, source_calls, source_writes, then_written, under_way, unnamed, unnamed_features, unnamed_object}
+use Rattle.kernel_laws.specs.Logs.{AreFollowed, AreLogged, Ended, IsFollowed, IsUnreleased, Open, Watch, Watching, Written, answered, calls_written, is_followed, issue_written, keeps_off_all, lines_of_calls, log_of, map_call, protect_call, read_written, register_calls, resolve_call, source, source_calls, source_writes, then_written, under_way, unnamed, unnamed_features, unnamed_object, modelled}
 use Rattle.mig_base.proofs.SetSizes.{only_where}
 use Rattle.kernel_laws.proofs.FaultReads.{page-requeued, requeued, sound-requeued}
 use Rattle.kernel_laws.proofs.FirstCalls.{HaveAreas, registers-logged}
 use Rattle.kernel_laws.proofs.Followed.{followed-protect, followed-wake, followed-zeropage, no_error}
-use Rattle.kernel_laws.proofs.LogRuns.{AreAll, Goes, Writes, accessed-logged, by-result, protect-logged, stays, wake-logged, writes-calls, zeropage-logged}
-use Rattle.kernel_laws.proofs.GuestCalls.{command-next}
+use Rattle.kernel_laws.proofs.LogRuns.{AreAll, Goes, Writes, by-result, protect-logged, stays, wake-logged, writes-calls, zeropage-logged, Differs, seen-quiet}
 use Rattle.kernel_laws.proofs.Clearing.{by-dontneed, dropped_space}
-use Rattle.kernel_laws.proofs.DiscardRuns.{Discard, pending_for}
-use Rattle.kernel_laws.proofs.Moves.{IsOther, Kept, held-changing, held-next, idle, kept-by, makes, reads, tries, wrote-next}
-use Rattle.kernel_laws.proofs.States.{Ends, Free, Held, Next, State, counterpart, ends-at, every-ends, free, held, log_begun, logged-from, next-ends, run_world}
-use Rattle.kernel_laws.proofs.Unmaps.{some-below}
+use Rattle.kernel_laws.proofs.DiscardRuns.{pending_for}
+use Rattle.kernel_laws.proofs.Moves.{Kept, held-changing, held-next, idle, kept-by, makes, reads, tries, wrote-next}
+use Rattle.kernel_laws.proofs.States.{Ends, Free, Next, State, counterpart, ends-at, every-ends, free, held, log_begun, logged-from, next-ends, run_world}
 use Rattle.kernel_laws.proofs.MapReplies.{by-reply, called_as}
-use Rattle.kernel_laws.proofs.MapRuns.{by-mmap, by-refusal, has_events_in, message-logged, no-map-call}
-use Rattle.kernel_laws.proofs.OpenCalls.{AreBelow, HasCalls, Pending, open_of}
+use Rattle.kernel_laws.proofs.MapRuns.{by-mmap, by-refusal, has_events_in, no-map-call, by-remap}
+use Rattle.kernel_laws.proofs.OpenCalls.{HasCalls, Pending, open_of}
 use Rattle.kernel_laws.proofs.Unnamed.{accessed-unnamed, may-unnamed, next-unnamed, no-names, protect-unnamed, read-unnamed, sound-unnamed, turn-unnamed, unnamed_guest, wake-unnamed, zeropage-unnamed}
+use Rattle.kernel_laws.proofs.GuestCalls.{IsReady, free-changing, free-kept}
 
--- The state of a source that is not released, and a kernel whose object agrees, with map calls under way
+-- The state of a source that is not released, and a kernel whose object agrees, while no map call is under way
 pub record At : Type 0 where
   pub world : World
   pub reached : IsReached world
   pub unreleased : is_released world.source.phase ≡ false
   pub by : Watch
-  pub calls : List Pending
   pub one : Counterparts
   pub same : one.space ≡ unnamed world.source.guest.space
-  pub told : HasCalls calls one
+  pub told : HasCalls [] one
   pub own : by.on.object ≡ one.name
 
 opened : (at : At) → IsOpen at.world.source.guest.space.object all_features
@@ -97,21 +93,6 @@ tried-space : (ran : Bool) (world : World) (cpu : ℕ) (command : Command) → i
 tried-space true world cpu command access = refl
 tried-space false world cpu command access = ap (λ b. unnamed (space_by b world.source.guest.space cpu command)) access ∙ sym (accessed-unnamed world.source.guest.space cpu command)
 
-tried-logged : (at : At) (cpu : ℕ) (command : Command) (ran : Bool) → is_access command ≡ true →
-    Goes at.calls at.calls at.one [] (cond ran (unnamed at.world.source.guest.space) (accessed (unnamed at.world.source.guest.space) cpu command))
-tried-logged at cpu command true access = stays at.one (unnamed at.world.source.guest.space) at.same at.told
-tried-logged at cpu command false access =
-    let spaces = (bounded-reached at.world at.reached).ready.kept.spaces in
-    let page = page_of command in
-    subst (λ s. Goes at.calls at.calls at.one [] (accessed s cpu command)) at.same
-    (accessed-logged at.one cpu command access at.told (ap (λ (s : Space). s.object.enabled) at.same ∙ (opened at).enabled) (ap (λ (s : Space). is_one s.object.features 8) at.same ∙ no-names)
-    (λ protect. ap (λ (s : Space). contains s.object.missing page) at.same ∙ spaces.both_modes page ∙ sym (ap (λ (s : Space). contains s.object.protect page) at.same) ∙ protect))
-
-command-logged : (at : At) (cpu : ℕ) (command : Command) → is_access command ≡ true →
-    Goes at.calls at.calls at.one [] (unnamed (with_guest_by at.world.destination.has_run at.world (tried (is_access command) (guest_of at.world) cpu command)).source.guest.space)
-command-logged at cpu command access =
-    subst (Goes at.calls at.calls at.one []) (sym (tried-space at.world.destination.has_run at.world cpu command access)) (tried-logged at cpu command at.world.destination.has_run access)
-
 retried-access : (ran : Bool) (world : World) (cpu : ℕ) (command : Command) → IsReached world → outstanding (processor_at (guest_by ran world.source.guest world.destination.guest).cpus cpu) ≡ Some command → is_access command ≡ true
 retried-access true world cpu command reached waits = (are_accesses world reached).destination cpu command waits
 retried-access false world cpu command reached waits = (are_accesses world reached).source cpu command waits
@@ -121,27 +102,27 @@ retried-access false world cpu command reached waits = (are_accesses world reach
 accepted : (world : World) (step : Step) (effect : Effect) → outcome world step ≡ Ok effect → IsOk (outcome world step)
 accepted world step effect is = subst IsOk (sym is) refl
 
-areas-logged : (at : At) (key : ℕ) (new : Space) → AreBelow key at.calls → AreRegistered at.world.source.guest.space new (at.by.runs at.world.source.guest.space.host.areas) 3 →
-    Goes at.calls at.calls at.one (lines_of_calls key (register_calls at.by.on 3 at.by.calls (at.by.runs at.world.source.guest.space.host.areas))) (unnamed new)
-areas-logged at key new below are =
+areas-logged : (at : At) (key : ℕ) (new : Space) → AreRegistered at.world.source.guest.space new (at.by.runs at.world.source.guest.space.host.areas) 3 →
+    Goes [] [] at.one (lines_of_calls key (register_calls at.by.on 3 at.by.calls (at.by.runs at.world.source.guest.space.host.areas))) (unnamed new)
+areas-logged at key new are =
     let space = at.world.source.guest.space in
     let runs = at.by.runs space.host.areas in
     let asked = (opened at).asked in
     let may = subst (λ s. MayRegister s runs 3) (sym at.same) (may-unnamed space runs 3 asked are.accepted) in
     let there : HaveAreas at.one.space runs = λ page inside. ap (λ (s : Space). contains_key s.host.areas page) at.same ∙ sym ((at.by.are space.host.areas (bounded-reached at.world at.reached).mapped).pages page) ∙ inside in
-    subst (Goes at.calls at.calls at.one (lines_of_calls key (register_calls at.by.on 3 at.by.calls runs)))
+    subst (Goes [] [] at.one (lines_of_calls key (register_calls at.by.on 3 at.by.calls runs)))
     (ap (λ s. registered_in_turn s runs 3) at.same ∙ turn-unnamed space runs 3 asked ∙ ap unnamed (sym are.leaves))
-    (registers-logged at.one at.by.on 3 at.by.calls key runs below at.told at.own at.by.has may there)
+    (registers-logged at.one at.by.on 3 at.by.calls key runs tt at.told at.own at.by.has may there)
 
 -- Send and SendRun
 
-protected-logged : (at : At) (key addr len bits : ℕ) (wake : Wake) (new : Guest) → AreBelow key at.calls → IsWriteProtect at.world.source.guest new addr len bits wake →
-    Goes at.calls at.calls at.one (lines_of_calls key (answered (call.WriteProtect at.by.on addr len bits) Done ∷ [])) (unnamed new.space)
-protected-logged at key addr len bits wake new below is =
+protected-logged : (at : At) (key addr len bits : ℕ) (wake : Wake) (new : Guest) → IsWriteProtect at.world.source.guest new addr len bits wake →
+    Goes [] [] at.one (lines_of_calls key (answered (call.WriteProtect at.by.on addr len bits) Done ∷ [])) (unnamed new.space)
+protected-logged at key addr len bits wake new is =
     let old = at.world.source.guest in
     let there = protect-unnamed old new addr len bits wake is in
     let error = ap (λ (s : Space). writeprotect_error s addr len bits) at.same ∙ no_error (writeprotect_error old.space addr len bits) _ wake is.answer in
-    protect-logged at.one key at.by.on addr len bits (unnamed new.space) below at.own at.told error (followed-protect at.one (unnamed_guest old) (unnamed_guest new) key addr len bits wake at.same there)
+    protect-logged at.one key at.by.on addr len bits (unnamed new.space) tt at.own at.told error (followed-protect at.one (unnamed_guest old) (unnamed_guest new) key addr len bits wake at.same there)
 
 sent-some : (on : Descriptor) (b : Bool) (addr : ℕ) → protect_call on (cond b (Effect.SentZero addr) (Effect.SentPage addr)) ≡ [] → (A : Type 0) → A
 sent-some on true addr none A = absurd (cc)
@@ -161,13 +142,13 @@ not-a-run world addr pages is =
     made-effect (λ effect new. effect ≡ Effect.SentRun addr pages → ⊥) world Step.Send (Effect.SentRun addr pages)
     (λ page least precopy up quiet h. page-not-run (is_zeros (bytes_of world.source page)) (4096 * page) addr pages h) is refl
 
-send-logged : (at : At) (key : ℕ) (effect : Effect) → AreBelow key at.calls → outcome at.world Step.Send ≡ Ok effect → Goes at.calls at.calls at.one (lines_of_calls key (protect_call at.by.on effect)) (unnamed (next at.world Step.Send).source.guest.space)
-send-logged at key (Effect.SentPage addr) below is =
-    protected-logged at key addr 4096 1 Nobody (next at.world Step.Send).source.guest below (page_protected at.reached.cpus at.world addr (bounded-reached at.world at.reached) is)
-send-logged at key (Effect.SentZero addr) below is =
-    protected-logged at key addr 4096 1 Nobody (next at.world Step.Send).source.guest below (zero_protected at.reached.cpus at.world addr (bounded-reached at.world at.reached) is)
-send-logged at key (Effect.SentRun addr pages) below is = absurd (not-a-run at.world addr pages is)
-send-logged at key effect below is = stays at.one (unnamed (next at.world Step.Send).source.guest.space) (at.same ∙ ap unnamed (sym (not-sent at.world at.by.on effect is refl))) at.told
+send-logged : (at : At) (key : ℕ) (effect : Effect) → outcome at.world Step.Send ≡ Ok effect → Goes [] [] at.one (lines_of_calls key (protect_call at.by.on effect)) (unnamed (next at.world Step.Send).source.guest.space)
+send-logged at key (Effect.SentPage addr) is =
+    protected-logged at key addr 4096 1 Nobody (next at.world Step.Send).source.guest (page_protected at.reached.cpus at.world addr (bounded-reached at.world at.reached) is)
+send-logged at key (Effect.SentZero addr) is =
+    protected-logged at key addr 4096 1 Nobody (next at.world Step.Send).source.guest (zero_protected at.reached.cpus at.world addr (bounded-reached at.world at.reached) is)
+send-logged at key (Effect.SentRun addr pages) is = absurd (not-a-run at.world addr pages is)
+send-logged at key effect is = stays at.one (unnamed (next at.world Step.Send).source.guest.space) (at.same ∙ ap unnamed (sym (not-sent at.world at.by.on effect is refl))) at.told
 
 run-some : (on : Descriptor) (addr pages : ℕ) → protect_call on (Effect.SentRun addr pages) ≡ [] → (A : Type 0) → A
 run-some on addr pages none A = absurd (cc)
@@ -191,13 +172,13 @@ not-a-zero : (world : World) (count addr : ℕ) → outcome world (Step.SendRun 
 not-a-zero world count addr is =
     made-effect (λ effect new. effect ≡ Effect.SentZero addr → ⊥) world (Step.SendRun count) (Effect.SentZero addr) (λ first number least many precopy up quiet h. run-not-zero (4096 * first) number addr h) is refl
 
-run-logged : (at : At) (count key : ℕ) (effect : Effect) → AreBelow key at.calls → outcome at.world (Step.SendRun count) ≡ Ok effect →
-    Goes at.calls at.calls at.one (lines_of_calls key (protect_call at.by.on effect)) (unnamed (next at.world (Step.SendRun count)).source.guest.space)
-run-logged at count key (Effect.SentRun addr pages) below is =
-    protected-logged at key addr (4096 * pages) 1 Nobody (next at.world (Step.SendRun count)).source.guest below (run_protected at.reached.cpus at.world count addr pages (bounded-reached at.world at.reached) is)
-run-logged at count key (Effect.SentPage addr) below is = absurd (not-a-page at.world count addr is)
-run-logged at count key (Effect.SentZero addr) below is = absurd (not-a-zero at.world count addr is)
-run-logged at count key effect below is = stays at.one (unnamed (next at.world (Step.SendRun count)).source.guest.space) (at.same ∙ ap unnamed (sym (no-run-sent at.world count at.by.on effect is refl))) at.told
+run-logged : (at : At) (count key : ℕ) (effect : Effect) → outcome at.world (Step.SendRun count) ≡ Ok effect →
+    Goes [] [] at.one (lines_of_calls key (protect_call at.by.on effect)) (unnamed (next at.world (Step.SendRun count)).source.guest.space)
+run-logged at count key (Effect.SentRun addr pages) is =
+    protected-logged at key addr (4096 * pages) 1 Nobody (next at.world (Step.SendRun count)).source.guest (run_protected at.reached.cpus at.world count addr pages (bounded-reached at.world at.reached) is)
+run-logged at count key (Effect.SentPage addr) is = absurd (not-a-page at.world count addr is)
+run-logged at count key (Effect.SentZero addr) is = absurd (not-a-zero at.world count addr is)
+run-logged at count key effect is = stays at.one (unnamed (next at.world (Step.SendRun count)).source.guest.space) (at.same ∙ ap unnamed (sym (no-run-sent at.world count at.by.on effect is refl))) at.told
 
 -- SourceRead
 
@@ -206,19 +187,6 @@ is-read : (world : World) (effect : Effect) → outcome world Step.SourceRead �
 is-read world effect is =
     made-effect (λ effect new. (noted : Noted) × (next_message world.source.guest.space.object ≡ Some noted) × (new.source.guest.space ≡ record world.source.guest.space { object = message_read world.source.guest.space.object }))
     world Step.SourceRead effect (λ noted next started unswitched. (noted, next, refl)) is
-
-source-read-writes : (at : At) (key : ℕ) (effect : Effect) → AreBelow key at.calls → outcome at.world Step.SourceRead ≡ Ok effect →
-    Writes at.calls at.one (read_written at.by.on key (map open_of at.calls) (next_message (unnamed at.world.source.guest.space).object)) (unnamed (next at.world Step.SourceRead).source.guest.space)
-source-read-writes at key effect below is =
-    let space = at.world.source.guest.space in
-    let object = at.one.space.object in
-    let it = is-read at.world effect is in
-    let first = next-unnamed space.object it.0 it.1 in
-    let after : record at.one.space { object = message_read object } ≡ unnamed (next at.world Step.SourceRead).source.guest.space =
-    ap (λ (s : Space). record s { object = message_read s.object }) at.same ∙ ap (λ o. record (unnamed space) { object = o }) (read-unnamed space.object) ∙ ap unnamed (sym it.2) in
-    subst (λ o. Writes at.calls at.one (read_written at.by.on key (map open_of at.calls) o) (unnamed (next at.world Step.SourceRead).source.guest.space)) (sym first.1)
-    (subst (Writes at.calls at.one (read_written at.by.on key (map open_of at.calls) (Some first.0))) after
-    (message-logged at.one key at.by.on first.0 object.faults object.events below at.own at.told (ap (λ (s : Space). s.object.enabled) at.same ∙ (opened at).enabled) refl refl (ap (λ (s : Space). next_message s.object) at.same ∙ first.1)))
 
 -- SourceAct
 
@@ -234,26 +202,26 @@ not-resolved world on effect is =
     made-effect (λ effect new. resolve_call on effect ≡ [] → new.source.guest.space ≡ world.source.guest.space) world Step.SourceAct effect
     (λ fault rest first started unswitched quiet. resolved-space on _ world.source fault.page (4096 * fault.page)) is
 
-resolve-logged : (at : At) (key : ℕ) (effect : Effect) → AreBelow key at.calls → outcome at.world Step.SourceAct ≡ Ok effect →
-    Goes at.calls at.calls at.one (lines_of_calls key (resolve_call at.by.on effect)) (unnamed (next at.world Step.SourceAct).source.guest.space)
-resolve-logged at key (Effect.Unprotected addr) below is =
-    protected-logged at key addr 4096 0 (Range addr 4096) (next at.world Step.SourceAct).source.guest below (source_unprotects at.reached.cpus at.world addr (bounded-reached at.world at.reached) is)
-resolve-logged at key (Effect.Zeroed addr) below is =
+resolve-logged : (at : At) (key : ℕ) (effect : Effect) → outcome at.world Step.SourceAct ≡ Ok effect →
+    Goes [] [] at.one (lines_of_calls key (resolve_call at.by.on effect)) (unnamed (next at.world Step.SourceAct).source.guest.space)
+resolve-logged at key (Effect.Unprotected addr) is =
+    protected-logged at key addr 4096 0 (Range addr 4096) (next at.world Step.SourceAct).source.guest (source_unprotects at.reached.cpus at.world addr (bounded-reached at.world at.reached) is)
+resolve-logged at key (Effect.Zeroed addr) is =
     let old = at.world.source.guest in
     let new = (next at.world Step.SourceAct).source.guest in
-    zeropage-logged at.one key at.by.on addr (unnamed new.space) below at.own at.told
+    zeropage-logged at.one key at.by.on addr (unnamed new.space) tt at.own at.told
     (followed-zeropage at.one (unnamed_guest old) (unnamed_guest new) key addr at.same (zeropage-unnamed old new addr (source_zeroes at.reached.cpus at.world addr (bounded-reached at.world at.reached) is)))
-resolve-logged at key (Effect.Woke addr) below is =
+resolve-logged at key (Effect.Woke addr) is =
     let old = at.world.source.guest in
     let new = (next at.world Step.SourceAct).source.guest in
-    wake-logged at.one key at.by.on addr 4096 (unnamed new.space) below at.own at.told
+    wake-logged at.one key at.by.on addr 4096 (unnamed new.space) tt at.own at.told
     (followed-wake at.one (unnamed_guest old) (unnamed_guest new) addr at.same (wake-unnamed old new addr (source_wakes at.reached.cpus at.world addr (bounded-reached at.world at.reached) (inside-reached at.world at.reached) is)))
-resolve-logged at key (Effect.Forgot addr) below is =
+resolve-logged at key (Effect.Forgot addr) is =
     let old = at.world.source.guest in
     let new = (next at.world Step.SourceAct).source.guest in
-    wake-logged at.one key at.by.on addr 4096 (unnamed new.space) below at.own at.told
+    wake-logged at.one key at.by.on addr 4096 (unnamed new.space) tt at.own at.told
     (followed-wake at.one (unnamed_guest old) (unnamed_guest new) addr at.same (wake-unnamed old new addr (source_forgets at.reached.cpus at.world addr (bounded-reached at.world at.reached) (inside-reached at.world at.reached) is)))
-resolve-logged at key effect below is =
+resolve-logged at key effect is =
     stays at.one (unnamed (next at.world Step.SourceAct).source.guest.space) (at.same ∙ ap unnamed (sym (not-resolved at.world at.by.on effect is refl))) at.told
 
 -- Switch: a thread that is on its way never queues its fault
@@ -282,13 +250,13 @@ stopped one told =
       name = refl;
       home = refl;
       told = told;
-      differs = λ h. h;
+      differs = λ moves none h. h;
     }
 
-switch-logged : (at : At) → Goes at.calls at.calls at.one [] (unnamed (next at.world Step.Switch).source.guest.space)
+switch-logged : (at : At) → Goes [] [] at.one [] (unnamed (next at.world Step.Switch).source.guest.space)
 switch-logged at =
-    made-next (λ new. Goes at.calls at.calls at.one [] (unnamed new.source.guest.space)) at.world Step.Switch (stays at.one (unnamed at.world.source.guest.space) at.same at.told)
-    (λ precopy up quiet. subst (λ s. Goes at.calls at.calls at.one [] (requeued s [] s.object.events)) at.same (stopped at.one at.told))
+    made-next (λ new. Goes [] [] at.one [] (unnamed new.source.guest.space)) at.world Step.Switch (stays at.one (unnamed at.world.source.guest.space) at.same at.told)
+    (λ precopy up quiet. subst (λ s. Goes [] [] at.one [] (requeued s [] s.object.events)) at.same (stopped at.one at.told))
 
 -- Frames
 
@@ -302,41 +270,48 @@ delivered-guest world n =
 
 -- Steps that do not change it
 
-unchanged : (at : At) (step : Step) → (next at.world step).source.guest ≡ at.world.source.guest → Goes at.calls at.calls at.one [] (unnamed (next at.world step).source.guest.space)
+unchanged : (at : At) (step : Step) → (next at.world step).source.guest ≡ at.world.source.guest → Goes [] [] at.one [] (unnamed (next at.world step).source.guest.space)
 unchanged at step is = stays at.one (unnamed (next at.world step).source.guest.space) (at.same ∙ ap (λ (guest : Guest). unnamed guest.space) (sym is)) at.told
 
-node-unchanged : (at : At) (step : Step) → (next at.world step).source ≡ at.world.source → Goes at.calls at.calls at.one [] (unnamed (next at.world step).source.guest.space)
+node-unchanged : (at : At) (step : Step) → (next at.world step).source ≡ at.world.source → Goes [] [] at.one [] (unnamed (next at.world step).source.guest.space)
 node-unchanged at step is = unchanged at step (ap (λ (node : Source). node.guest) is)
 
 -- A map call of the guest
 
-queued-unnamed : (object : ModelObject) (w : Bool) (message : Message) (cpu : ℕ) → all_queued (unnamed_object object) (message_if w message) cpu ≡ unnamed_object (all_queued object (message_if w message) cpu)
-queued-unnamed object true message cpu = refl
-queued-unnamed object false message cpu = refl
+queued-unnamed : (object : ModelObject) (messages : List Message) (cpu : ℕ) → all_queued (unnamed_object object) messages cpu ≡ unnamed_object (all_queued object messages cpu)
+queued-unnamed object [] cpu = refl
+queued-unnamed object (message ∷ messages) cpu = queued-unnamed (event_queued object message cpu) messages cpu
 
 -- an object that asks for no thread numbers changes as the other one
 as-unnamed : (space : Space) (cpu : ℕ) (command : Command) (reply : Reply) → reply_of (memory space.host) command ≡ reply → called_as (unnamed space) cpu command reply ≡ unnamed (called_as space cpu command reply) →
     called (unnamed space) cpu command ≡ unnamed (called space cpu command)
 as-unnamed space cpu command reply is same = by-reply (unnamed space) cpu command reply is ∙ same ∙ sym (ap unnamed (by-reply space cpu command reply is))
 
-called-unnamed : (space : Space) (cpu : ℕ) (command : Command) → is_access command ≡ false → is_followed command ≡ true → called (unnamed space) cpu command ≡ unnamed (called space cpu command)
-called-unnamed space cpu (Command.Load addr width) access followed = absurd (false≢true (sym access))
-called-unnamed space cpu (Command.Store addr width value) access followed = absurd (false≢true (sym access))
-called-unnamed space cpu (Command.Mmap len prot place) access followed =
+called-unnamed : (space : Space) (cpu : ℕ) (command : Command) → is_access command ≡ false → called (unnamed space) cpu command ≡ unnamed (called space cpu command)
+called-unnamed space cpu (Command.Load addr width) access = absurd (false≢true (sym access))
+called-unnamed space cpu (Command.Store addr width value) access = absurd (false≢true (sym access))
+called-unnamed space cpu (Command.Mmap len prot place) access =
     by-mmap (memory space.host) len prot place (λ reply. mmap_reply (memory space.host) len prot place ≡ reply → called (unnamed space) cpu (Command.Mmap len prot place) ≡ unnamed (called space cpu (Command.Mmap len prot place)))
     (λ errno is. as-unnamed space cpu (Command.Mmap len prot place) (Reply.Refused errno) is refl)
     (λ start is. as-unnamed space cpu (Command.Mmap len prot place) (Reply.At start) is
     (ap (λ o. record (called_as space cpu (Command.Mmap len prot place) (Reply.At start)) { object = o })
-    (queued-unnamed (unregistered space.object (start / 4096) (pages_of len)) (is_watched space.object (start / 4096) (pages_of len)) (Message.Unmap start (start + rounded len)) cpu))) refl
-called-unnamed space cpu (Command.Munmap addr len) access followed =
+    (queued-unnamed (unregistered space.object (start / 4096) (pages_of len)) (message_if (is_watched space.object (start / 4096) (pages_of len)) (Message.Unmap start (start + rounded len))) cpu))) refl
+called-unnamed space cpu (Command.Munmap addr len) access =
     by-refusal (λ reply. munmap_reply addr len ≡ reply → called (unnamed space) cpu (Command.Munmap addr len) ≡ unnamed (called space cpu (Command.Munmap addr len)))
     ((not (is_page_start addr), Errno.Einval) ∷ (eqb len 0, Errno.Einval) ∷ (ltb HIGH (addr + rounded len), Errno.Einval) ∷ []) Reply.Done
     (λ errno is. as-unnamed space cpu (Command.Munmap addr len) (Reply.Refused errno) is refl)
     (λ is. as-unnamed space cpu (Command.Munmap addr len) Reply.Done is
     (ap (λ o. record (called_as space cpu (Command.Munmap addr len) Reply.Done) { object = o })
-    (queued-unnamed (unregistered space.object (addr / 4096) (pages_of len)) (is_watched space.object (addr / 4096) (pages_of len)) (Message.Unmap addr (addr + rounded len)) cpu))) refl
-called-unnamed space cpu (Command.Mremap addr old_len new_len may_move fixed) access followed = absurd (false≢true followed)
-called-unnamed space cpu (Command.DontNeed addr len) access followed =
+    (queued-unnamed (unregistered space.object (addr / 4096) (pages_of len)) (message_if (is_watched space.object (addr / 4096) (pages_of len)) (Message.Unmap addr (addr + rounded len))) cpu))) refl
+called-unnamed space cpu (Command.Mremap addr old_len new_len may_move fixed) access =
+    let command = Command.Mremap addr old_len new_len may_move fixed in
+    by-remap (memory space.host) addr old_len new_len may_move fixed (λ reply. mremap_reply (memory space.host) addr old_len new_len may_move fixed ≡ reply → called (unnamed space) cpu command ≡ unnamed (called space cpu command))
+    (λ errno is. as-unnamed space cpu command (Reply.Refused errno) is refl)
+    (λ target is.
+    let object = modes_after space.object command (Reply.At target) in
+    let messages = call_messages space.object command (Reply.At target) in
+    as-unnamed space cpu command (Reply.At target) is (ap (λ o. record (called_as space cpu command (Reply.At target)) { object = o }) (queued-unnamed object messages cpu))) refl
+called-unnamed space cpu (Command.DontNeed addr len) access =
     let there = memory space.host in
     by-dontneed (λ reply. dontneed_reply there addr len ≡ reply → called (unnamed space) cpu (Command.DontNeed addr len) ≡ unnamed (called space cpu (Command.DontNeed addr len)))
     (is_page_start addr) (eqb len 0) (leb (2 ^ 64) (addr + rounded len)) (not (is_all_mapped there addr (rounded len)))
@@ -354,52 +329,23 @@ called-unnamed space cpu (Command.DontNeed addr len) access followed =
         dropped_space space (addr / 4096) (pages_of len) addr stop cpu w ≡ called_as space cpu command reply → called (unnamed space) cpu command ≡ unnamed (called space cpu command)
     removed reply stop is now before =
         as-unnamed space cpu command reply is
-        (now ∙ ap (λ o. record (dropped_space (unnamed space) (addr / 4096) (pages_of len) addr stop cpu w) { object = o }) (queued-unnamed space.object w (Message.Remove addr stop) cpu) ∙ ap unnamed before)
+        (now ∙ ap (λ o. record (dropped_space (unnamed space) (addr / 4096) (pages_of len) addr stop cpu w) { object = o }) (queued-unnamed space.object (message_if w (Message.Remove addr stop)) cpu) ∙ ap unnamed before)
 
 asked-events : has_events_in unnamed_features ≡ true
 unfolding is_one
 asked-events = refl
 
--- by whether it is an access
-command-by : {name home key : ℕ} (at : At) (its : Free name home key (unnamed at.world.source.guest.space) at.calls at.one) (cpu : ℕ) (command : Command) (access : Bool) → is_access command ≡ access → is_followed command ≡ true →
-    Next name home (under_way at.one.kernel (map open_of at.calls)) at.one (issue_written home key (map open_of at.calls) (unnamed at.world.source.guest.space) command (map_call command)) (unnamed (space_by (is_access command) at.world.source.guest.space cpu command))
-command-by {name = name} {home = home} {key = key} at its cpu command false access followed =
-    let space = at.world.source.guest.space in
-    let start = under_way at.one.kernel (map open_of at.calls) in
-    let written = λ (n : ℕ) (s : Space). issue_written n key (map open_of at.calls) s command (map_call command) in
-    subst (λ b. Next name home start at.one (written home (unnamed space)) (unnamed (space_by b space cpu command))) (sym access)
-    (subst (Next name home start at.one (written home (unnamed space))) (called-unnamed space cpu command access followed)
-    (subst (λ n. Next name home start at.one (written n (unnamed space)) (called (unnamed space) cpu command)) (sym its.there)
-    (subst (λ s. Next name home start at.one (written at.one.object.space s) (called s cpu command)) at.same
-    (command-next (record { same = refl; told = its.told; below = its.below; own = its.own; there = its.there }) cpu command (ap (λ (s : Space). s.object.enabled) at.same ∙ (opened at).enabled)
-    (ap (λ (s : Space). has_events_in s.object.features) at.same ∙ asked-events) (subst (λ (s : Space). IsMapping s.host.areas) (sym at.same) (memory_bounded at.world at.reached).source) access followed))))
-command-by {home = home} {key = key} at its cpu command true access followed =
-    let space = at.world.source.guest.space in
-    let new = unnamed (space_by (is_access command) space cpu command) in
-    wrote-next (issue_written home key (map open_of at.calls) (unnamed space) command (map_call command)) new its
-    (subst (λ o. Writes at.calls at.one (issue_written home key (map open_of at.calls) (unnamed space) command o) new) (sym (no-map-call command access))
-    (writes-calls at.one key [] new its.below
-    (subst (Goes at.calls at.calls at.one []) (accessed-unnamed space cpu command ∙ ap (λ b. unnamed (space_by b space cpu command)) (sym access)) (tried-logged at cpu command false access))))
-
--- where the guest runs
-issue-by : {name home key : ℕ} (at : At) (its : Free name home key (unnamed at.world.source.guest.space) at.calls at.one) (cpu : ℕ) (command : Command) (ran : Bool) → is_followed command ≡ true →
-    Next name home (under_way at.one.kernel (map open_of at.calls)) at.one (cond ran (calls_written key (map open_of at.calls) []) (issue_written home key (map open_of at.calls) (unnamed at.world.source.guest.space) command (map_call command)))
-    (unnamed (with_guest_by ran at.world (tried (is_access command) (guest_by ran at.world.source.guest at.world.destination.guest) cpu command)).source.guest.space)
-issue-by {key = key} at its cpu command true followed =
-    let space = unnamed at.world.source.guest.space in
-    wrote-next (calls_written key (map open_of at.calls) []) space its (writes-calls at.one key [] space its.below (stays at.one space at.same at.told))
-issue-by at its cpu command false followed = command-by at its cpu command (is_access command) refl followed
-
 -- Every step
 
--- by the outcome: a refused step changes nothing
-by-outcome : (at : At) (key : ℕ) (step : Step) (written : Result Effect Refusal → Written) (result : Result Effect Refusal) → AreBelow key at.calls → ((refusal : Refusal) → written (Err refusal) ≡ calls_written key (map open_of at.calls) []) → outcome at.world step ≡ result →
-    ((effect : Effect) → outcome at.world step ≡ Ok effect → Writes at.calls at.one (written (Ok effect)) (unnamed (next at.world step).source.guest.space)) → Writes at.calls at.one (written result) (unnamed (next at.world step).source.guest.space)
-by-outcome at key step written (Ok effect) below none is made = made effect is
-by-outcome at key step written (Err refusal) below none is made =
-    let space = unnamed (next at.world step).source.guest.space in
-    subst (λ w. Writes at.calls at.one w space) (sym (none refusal))
-    (writes-calls at.one key [] space below (stays at.one space (at.same ∙ sym (ap (λ (w : World). unnamed w.source.guest.space) (next-refused at.world step refusal is))) at.told))
+-- the steps in which the handler makes calls on pages, and Switch
+abbrev IsHandled : Step → Type 0
+IsHandled Step.Start = Unit {0}
+IsHandled Step.Round = Unit {0}
+IsHandled Step.Send = Unit {0}
+IsHandled (Step.SendRun count) = Unit {0}
+IsHandled Step.SourceAct = Unit {0}
+IsHandled Step.Switch = Unit {0}
+IsHandled step = ⊥
 
 -- the guest of the source has no part in a step
 abbrev IsPassive : Step → Type 0
@@ -436,39 +382,31 @@ passive world (Step.DeliverUrgent n) is unreleased = ap (λ (node : Source). nod
 passive world Step.Break is unreleased = ap (λ (node : Source). node.guest) (changes_parts world Step.Break).source
 passive world step is unreleased = absurd is
 
-step-writes : (at : At) (home key : ℕ) (step : Step) → AreBelow key at.calls → Keeps at.world step → IsOther step →
-    Writes at.calls at.one (source_writes at.by home key (map open_of at.calls) at.world step (outcome at.world step)) (unnamed (next at.world step).source.guest.space)
-step-writes at home key (Step.Issue cpu command) below unreleased other = absurd other
-step-writes at home key Step.SourceRead below unreleased other =
-    by-outcome at key Step.SourceRead (source_writes at.by home key (map open_of at.calls) at.world Step.SourceRead) (outcome at.world Step.SourceRead) below (λ refusal. refl) refl (λ effect is. source-read-writes at key effect below is)
-step-writes at home key (Step.Retry cpu) below unreleased other =
-    writes-calls at.one key (source_calls at.by at.world (Step.Retry cpu) (outcome at.world (Step.Retry cpu))) (unnamed (next at.world (Step.Retry cpu)).source.guest.space) below
-    (made-next (λ new. Goes at.calls at.calls at.one [] (unnamed new.source.guest.space)) at.world (Step.Retry cpu) (stays at.one (unnamed at.world.source.guest.space) at.same at.told)
-    (λ command waits woken runs. command-logged at cpu command (retried-access at.world.destination.has_run at.world cpu command at.reached waits)))
-step-writes at home key Step.Start below unreleased other =
-    writes-calls at.one key (source_calls at.by at.world Step.Start (outcome at.world Step.Start)) (unnamed (next at.world Step.Start).source.guest.space) below
+handled-writes : (at : At) (home key : ℕ) (step : Step) → IsHandled step →
+    Writes [] at.one (source_writes at.by home key [] at.world step (outcome at.world step)) (unnamed (next at.world step).source.guest.space)
+handled-writes at home key Step.Start handled =
+    writes-calls at.one key (source_calls at.by at.world Step.Start (outcome at.world Step.Start)) (unnamed (next at.world Step.Start).source.guest.space)
     (by-result (source at.by at.one.object.space) at.world Step.Start at.one (λ effect. register_calls at.by.on 3 at.by.calls (at.by.runs at.world.source.guest.space.host.areas)) key (outcome at.world Step.Start) at.same at.told refl
-    (λ effect is. areas-logged at key (next at.world Step.Start).source.guest.space below
+    (λ effect is. areas-logged at key (next at.world Step.Start).source.guest.space
     (start_registers at.reached.cpus at.world (at.by.runs at.world.source.guest.space.host.areas) (bounded-reached at.world at.reached) (accepted at.world Step.Start effect is) (at.by.are at.world.source.guest.space.host.areas (bounded-reached at.world at.reached).mapped))))
-step-writes at home key Step.Round below unreleased other =
-    writes-calls at.one key (source_calls at.by at.world Step.Round (outcome at.world Step.Round)) (unnamed (next at.world Step.Round).source.guest.space) below
+handled-writes at home key Step.Round handled =
+    writes-calls at.one key (source_calls at.by at.world Step.Round (outcome at.world Step.Round)) (unnamed (next at.world Step.Round).source.guest.space)
     (by-result (source at.by at.one.object.space) at.world Step.Round at.one (λ effect. register_calls at.by.on 3 at.by.calls (at.by.runs at.world.source.guest.space.host.areas)) key (outcome at.world Step.Round) at.same at.told refl
-    (λ effect is. areas-logged at key (next at.world Step.Round).source.guest.space below
+    (λ effect is. areas-logged at key (next at.world Step.Round).source.guest.space
     (round_registers at.reached.cpus at.world (at.by.runs at.world.source.guest.space.host.areas) (bounded-reached at.world at.reached) (accepted at.world Step.Round effect is) (at.by.are at.world.source.guest.space.host.areas (bounded-reached at.world at.reached).mapped))))
-step-writes at home key Step.Send below unreleased other =
-    writes-calls at.one key (source_calls at.by at.world Step.Send (outcome at.world Step.Send)) (unnamed (next at.world Step.Send).source.guest.space) below
-    (by-result (source at.by at.one.object.space) at.world Step.Send at.one (protect_call at.by.on) key (outcome at.world Step.Send) at.same at.told refl (λ effect is. send-logged at key effect below is))
-step-writes at home key (Step.SendRun count) below unreleased other =
-    writes-calls at.one key (source_calls at.by at.world (Step.SendRun count) (outcome at.world (Step.SendRun count))) (unnamed (next at.world (Step.SendRun count)).source.guest.space) below
-    (by-result (source at.by at.one.object.space) at.world (Step.SendRun count) at.one (protect_call at.by.on) key (outcome at.world (Step.SendRun count)) at.same at.told refl (λ effect is. run-logged at count key effect below is))
-step-writes at home key Step.SourceAct below unreleased other =
-    writes-calls at.one key (source_calls at.by at.world Step.SourceAct (outcome at.world Step.SourceAct)) (unnamed (next at.world Step.SourceAct).source.guest.space) below
-    (by-result (source at.by at.one.object.space) at.world Step.SourceAct at.one (resolve_call at.by.on) key (outcome at.world Step.SourceAct) at.same at.told refl (λ effect is. resolve-logged at key effect below is))
-step-writes at home key Step.Switch below unreleased other =
-    writes-calls at.one key (source_calls at.by at.world Step.Switch (outcome at.world Step.Switch)) (unnamed (next at.world Step.Switch).source.guest.space) below
+handled-writes at home key Step.Send handled =
+    writes-calls at.one key (source_calls at.by at.world Step.Send (outcome at.world Step.Send)) (unnamed (next at.world Step.Send).source.guest.space)
+    (by-result (source at.by at.one.object.space) at.world Step.Send at.one (protect_call at.by.on) key (outcome at.world Step.Send) at.same at.told refl (λ effect is. send-logged at key effect is))
+handled-writes at home key (Step.SendRun count) handled =
+    writes-calls at.one key (source_calls at.by at.world (Step.SendRun count) (outcome at.world (Step.SendRun count))) (unnamed (next at.world (Step.SendRun count)).source.guest.space)
+    (by-result (source at.by at.one.object.space) at.world (Step.SendRun count) at.one (protect_call at.by.on) key (outcome at.world (Step.SendRun count)) at.same at.told refl (λ effect is. run-logged at count key effect is))
+handled-writes at home key Step.SourceAct handled =
+    writes-calls at.one key (source_calls at.by at.world Step.SourceAct (outcome at.world Step.SourceAct)) (unnamed (next at.world Step.SourceAct).source.guest.space)
+    (by-result (source at.by at.one.object.space) at.world Step.SourceAct at.one (resolve_call at.by.on) key (outcome at.world Step.SourceAct) at.same at.told refl (λ effect is. resolve-logged at key effect is))
+handled-writes at home key Step.Switch handled =
+    writes-calls at.one key (source_calls at.by at.world Step.Switch (outcome at.world Step.Switch)) (unnamed (next at.world Step.Switch).source.guest.space)
     (switch-logged at)
-step-writes at home key step below unreleased other =
-    writes-calls at.one key (source_calls at.by at.world step (outcome at.world step)) (unnamed (next at.world step).source.guest.space) below (unchanged at step (passive at.world step tt unreleased))
+handled-writes at home key step handled = absurd handled
 
 -- Every list of steps
 
@@ -488,25 +426,7 @@ all-kept : (world : World) (steps : List Step) → IsReached world → IsUnrelea
 all-kept world [] reached kept = (reached, kept)
 all-kept world (step ∷ steps) reached kept = ((reached, unreleased-first world (step ∷ steps) reached kept), all-kept (next world step) steps (reached-next world step reached) kept)
 
--- a step while no MADV_DONTNEED is under way
-free-next : {name home key : ℕ} (at : At) (its : Free name home key (unnamed at.world.source.guest.space) at.calls at.one) (step : Step) → Keeps at.world step → IsFollowed (unnamed at.world.source.guest.space) (map open_of at.calls) at.world step →
-    Next name home (under_way at.one.kernel (map open_of at.calls)) at.one (source_writes at.by home key (map open_of at.calls) at.world step (outcome at.world step)) (unnamed (next at.world step).source.guest.space)
-free-next {name = name} {home = home} {key = key} at its (Step.Issue cpu command) unreleased followed = by (outcome at.world step) refl where
-  step : Step
-  step = Step.Issue cpu command
-
-  by : (result : Result Effect Refusal) → outcome at.world step ≡ result →
-      Next name home (under_way at.one.kernel (map open_of at.calls)) at.one (source_writes at.by home key (map open_of at.calls) at.world step result) (unnamed (next at.world step).source.guest.space)
-  by (Ok effect) is =
-      made-effect (λ effect new. Next name home (under_way at.one.kernel (map open_of at.calls)) at.one (source_writes at.by home key (map open_of at.calls) at.world step (Ok effect)) (unnamed new.source.guest.space)) at.world step effect
-      (λ there ready runs. issue-by at its cpu command at.world.destination.has_run (and_first (is_followed command) (keeps_off_all (unnamed at.world.source.guest.space) command (map open_of at.calls)) followed)) is
-  by (Err refusal) is =
-      let space = unnamed (next at.world step).source.guest.space in
-      wrote-next (calls_written key (map open_of at.calls) []) space its
-      (writes-calls at.one key [] space its.below (stays at.one space (at.same ∙ sym (ap (λ (w : World). unnamed w.source.guest.space) (next-refused at.world step refusal is))) at.told))
-free-next {home = home} {key = key} at its step unreleased followed = wrote-next _ _ its (step-writes at home key step its.below unreleased tt)
-
--- One is under way
+-- Any other step, and one while map calls are under way
 
 abbrev space_of : World → Space
 space_of world = unnamed world.source.guest.space
@@ -527,15 +447,15 @@ tried-kept world cpu command false written reached access off is =
 
 -- a command, by whether it is an access
 issued-kept : {on : Descriptor} {home key : ℕ} {begun : List Open} (world : World) (cpu : ℕ) (command : Command) (ran access : Bool) → IsReached world → is_access command ≡ access → is_followed command ≡ true → keeps_off_all (space_of world) command begun ≡ true →
-    Kept on home key begun (cond ran (calls_written key begun []) (issue_written home key begun (space_of world) command (map_call command))) (space_of world)
+    Kept on home key begun (cond ran (calls_written key begun []) (issue_written home key begun (space_of world) cpu command (map_call command))) (space_of world)
     (unnamed (with_guest_by ran world (tried (is_access command) (guest_by ran world.source.guest world.destination.guest) cpu command)).source.guest.space)
 issued-kept world cpu command true access reached is followed off = idle refl refl
 issued-kept {home = home} {key = key} {begun = begun} world cpu command false true reached is followed off =
-    tried-kept world cpu command false _ reached is off (ap (issue_written home key begun (space_of world) command) (no-map-call command is))
+    tried-kept world cpu command false _ reached is off (ap (issue_written home key begun (space_of world) cpu command) (no-map-call command is))
 issued-kept world cpu command false false reached is followed off =
-    makes cpu command is followed off refl (ap (λ b. unnamed (space_by b world.source.guest.space cpu command)) is ∙ sym (called-unnamed world.source.guest.space cpu command is followed)) (memory_bounded world reached).source
+    makes cpu command is followed off refl (ap (λ b. unnamed (space_by b world.source.guest.space cpu command)) is ∙ sym (called-unnamed world.source.guest.space cpu command is)) (memory_bounded world reached).source
 
-source-kept : (by : Watch) (home key : ℕ) (begun : List Open) (world : World) (step : Step) → IsReached world → Keeps world step → is_changing world.source.guest ≡ true → is_source_idle world.source.phase ≡ false →
+source-kept : (by : Watch) (home key : ℕ) (begun : List Open) (world : World) (step : Step) → IsReached world → Keeps world step → (IsHandled step → is_changing world.source.guest ≡ true) → (IsHandled step → is_source_idle world.source.phase ≡ false) →
     IsFollowed (space_of world) begun world step → Kept by.on home key begun (source_writes by home key begun world step (outcome world step)) (space_of world) (space_of (next world step))
 source-kept by home key begun world (Step.Issue cpu command) reached unreleased changing busy followed =
     kept-by space_of world (Step.Issue cpu command) (source_writes by home key begun world (Step.Issue cpu command)) (outcome world (Step.Issue cpu command)) (λ refusal. refl) refl
@@ -556,19 +476,19 @@ source-kept by home key begun world Step.SourceRead reached unreleased changing 
     reads first.0 first.1 (ap (read_written by.on key begun) first.1) (ap unnamed it.2 ∙ sym (ap (λ o. record (unnamed space) { object = o }) (read-unnamed space.object))))
 source-kept by home key begun world Step.Start reached unreleased changing busy followed =
     refused-kept world Step.Start (source_calls by world Step.Start) (λ refusal. refl)
-    (λ effect is. made-effect (λ effect new. ⊥) world Step.Start effect (λ unbegun fits. false≢true (sym busy ∙ unbegun)) is)
+    (λ effect is. made-effect (λ effect new. ⊥) world Step.Start effect (λ unbegun fits. false≢true (sym (busy tt) ∙ unbegun)) is)
 source-kept by home key begun world Step.Round reached unreleased changing busy followed =
-    refused-kept world Step.Round (source_calls by world Step.Round) (λ refusal. refl) (λ effect is. made-effect (λ effect new. ⊥) world Step.Round effect (λ precopy quiet. false≢true (sym quiet ∙ changing)) is)
+    refused-kept world Step.Round (source_calls by world Step.Round) (λ refusal. refl) (λ effect is. made-effect (λ effect new. ⊥) world Step.Round effect (λ precopy quiet. false≢true (sym quiet ∙ changing tt)) is)
 source-kept by home key begun world Step.Send reached unreleased changing busy followed =
-    refused-kept world Step.Send (source_calls by world Step.Send) (λ refusal. refl) (λ effect is. made-effect (λ effect new. ⊥) world Step.Send effect (λ page least precopy up quiet. false≢true (sym quiet ∙ changing)) is)
+    refused-kept world Step.Send (source_calls by world Step.Send) (λ refusal. refl) (λ effect is. made-effect (λ effect new. ⊥) world Step.Send effect (λ page least precopy up quiet. false≢true (sym quiet ∙ changing tt)) is)
 source-kept by home key begun world (Step.SendRun count) reached unreleased changing busy followed =
     refused-kept world (Step.SendRun count) (source_calls by world (Step.SendRun count)) (λ refusal. refl)
-    (λ effect is. made-effect (λ effect new. ⊥) world (Step.SendRun count) effect (λ first number least many precopy up quiet. false≢true (sym quiet ∙ changing)) is)
+    (λ effect is. made-effect (λ effect new. ⊥) world (Step.SendRun count) effect (λ first number least many precopy up quiet. false≢true (sym quiet ∙ changing tt)) is)
 source-kept by home key begun world Step.SourceAct reached unreleased changing busy followed =
     refused-kept world Step.SourceAct (source_calls by world Step.SourceAct) (λ refusal. refl)
-    (λ effect is. made-effect (λ effect new. ⊥) world Step.SourceAct effect (λ fault rest first started unswitched quiet. false≢true (sym quiet ∙ changing)) is)
+    (λ effect is. made-effect (λ effect new. ⊥) world Step.SourceAct effect (λ fault rest first started unswitched quiet. false≢true (sym quiet ∙ changing tt)) is)
 source-kept by home key begun world Step.Switch reached unreleased changing busy followed =
-    refused-kept world Step.Switch (source_calls by world Step.Switch) (λ refusal. refl) (λ effect is. made-effect (λ effect new. ⊥) world Step.Switch effect (λ precopy up quiet. false≢true (sym quiet ∙ changing)) is)
+    refused-kept world Step.Switch (source_calls by world Step.Switch) (λ refusal. refl) (λ effect is. made-effect (λ effect new. ⊥) world Step.Switch effect (λ precopy up quiet. false≢true (sym quiet ∙ changing tt)) is)
 source-kept by home key begun world step reached unreleased changing busy followed = idle refl (ap (λ (guest : Guest). unnamed guest.space) (sym (passive world step tt unreleased)))
 
 -- Each state
@@ -585,28 +505,56 @@ bare-idle world kept unbegun page =
     let missing = (kept.precopy.idle_source (is-idle world.source.phase unbegun)).4 page in
     (missing, sym (kept.spaces.both_modes page) ∙ missing)
 
--- pages are registered once a migration has begun
-held-busy : {name home key : ℕ} (world : World) {calls : List Pending} {one : Counterparts} {it : Discard} → IsReached world → Held name home key (unnamed world.source.guest.space) it calls one → is_source_idle world.source.phase ≡ false
-held-busy world {one = one} {it = it} reached at = by (is_source_idle world.source.phase) refl where
-  none : is_source_idle world.source.phase ≡ true → (page : ℕ) → is_registered one.space.object page ≡ false
-  none unbegun page =
-      let bare = bare-idle world (bounded-reached world reached).ready.kept unbegun in
-      ap (λ (s : Space). is_registered s.object page) at.same ∙ (λ i. (bare page).0 i || (bare page).1 i)
-
+-- an event is unread only once a migration has begun
+changing-busy : (world : World) → IsReached world → is_changing world.source.guest ≡ true → is_source_idle world.source.phase ≡ false
+changing-busy world reached changing = by (is_source_idle world.source.phase) refl where
   by : (b : Bool) → is_source_idle world.source.phase ≡ b → b ≡ false
   by false is = refl
   by true is =
-      let found = some-below (λ i. is_registered one.space.object (it.addr / 4096 + i)) (pages_of it.len) at.watched in
-      absurd (false≢true (sym (none is (it.addr / 4096 + found.0)) ∙ found.2))
+      let none = ((bounded-reached world reached).ready.kept.precopy.idle_source (is-idle world.source.phase is)).3 in
+      absurd (false≢true (sym (ap (λ (l : List Noted). ltb 0 (length l)) none) ∙ changing))
+
+-- what the next step needs of the source's object
+is-ready : (world : World) → IsKept world → IsReady (space_of world)
+is-ready world it =
+    let opened = (bounded-reached world it.0).opened.source it.1 in
+    record { enabled = opened.enabled; asked = asked-events }
+
+kept-next : {name home key : ℕ} {calls : List Pending} {one : Counterparts} (by : Watch) (world : World) (its : Free name home key (space_of world) calls one) (step : Step) → by.on.object ≡ name → IsKept world → Keeps world step → (IsHandled step → is_changing world.source.guest ≡ true) →
+    IsFollowed (space_of world) (map open_of calls) world step →
+    Next name home (under_way one.kernel (map open_of calls)) one (source_writes by home key (map open_of calls) world step (outcome world step)) (space_of (next world step))
+kept-next {home = home} {key = key} {calls = calls} by world its step own it then changing followed =
+    free-kept its by.on (source_writes by home key (map open_of calls) world step (outcome world step)) (space_of (next world step)) own (is-ready world it)
+    (source-kept by home key (map open_of calls) world step it.0 then changing (λ handled. changing-busy world it.0 (changing handled)) followed)
+
+-- by whether the handler makes calls in it
+free-by : {home key : ℕ} {one : Counterparts} (by : Watch) (world : World) (its : Free by.on.object home key (space_of world) [] one) (step : Step) → IsKept world → Keeps world step → IsFollowed (space_of world) [] world step → (IsHandled step ⊎ (IsHandled step → ⊥)) →
+    Next by.on.object home (under_way one.kernel []) one (source_writes by home key [] world step (outcome world step)) (space_of (next world step))
+free-by {home = home} {key = key} {one = one} by world its step it then followed (inl handled) =
+    wrote-next _ _ its (handled-writes (record { world = world; reached = it.0; unreleased = it.1; by = by; one = one; same = sym (seen-quiet one its.told) ∙ its.same; told = its.told; own = its.own }) home key step handled)
+free-by by world its step it then followed (inr other) = kept-next by world its step refl it then (λ handled. absurd (other handled)) followed
+
+is-handled : (step : Step) → IsHandled step ⊎ (IsHandled step → ⊥)
+is-handled Step.Start = inl tt
+is-handled Step.Round = inl tt
+is-handled Step.Send = inl tt
+is-handled (Step.SendRun count) = inl tt
+is-handled Step.SourceAct = inl tt
+is-handled Step.Switch = inl tt
+is-handled step = inr (λ handled. handled)
+
+free-next : {home key : ℕ} {calls : List Pending} {one : Counterparts} (by : Watch) (world : World) (its : Free by.on.object home key (space_of world) calls one) (step : Step) → IsKept world → Keeps world step → IsFollowed (space_of world) (map open_of calls) world step →
+    Next by.on.object home (under_way one.kernel (map open_of calls)) one (source_writes by home key (map open_of calls) world step (outcome world step)) (space_of (next world step))
+free-next {calls = []} by world its step it then followed = free-by by world its step it then followed (is-handled step)
+free-next {calls = first ∷ calls} by world its step it then followed = kept-next by world its step refl it then (λ handled. free-changing its) followed
 
 state-next : (by : Watch) (home : ℕ) (world : World) (key : ℕ) (state : State by.on.object home key (unnamed world.source.guest.space)) (step : Step) → IsKept world → Keeps world step → IsFollowed (unnamed world.source.guest.space) (log_begun state) world step →
     Next by.on.object home (run_world state) (counterpart state) (source_writes by home key (log_begun state) world step (outcome world step)) (unnamed (next world step).source.guest.space)
-state-next by home world key (free calls one its) step it then followed =
-    free-next (record { world = world; reached = it.0; unreleased = it.1; by = by; calls = calls; one = one; same = its.same; told = its.told; own = its.own }) its step then followed
+state-next by home world key (free calls one its) step it then followed = free-next by world its step it then followed
 state-next by home world key (held clearing calls one its) step it then followed =
     held-next its by.on (source_writes by home key (log_begun (held clearing calls one its)) world step (outcome world step)) (unnamed (next world step).source.guest.space) refl
     (sound-unnamed world.source.guest.space (bounded-reached world it.0).ready.kept.spaces.source_space)
-    (source-kept by home key (map open_of calls ++ open_of (pending_for clearing) ∷ []) world step it.0 then (held-changing its) (held-busy world it.0 its) followed)
+    (source-kept by home key (map open_of calls ++ open_of (pending_for clearing) ∷ []) world step it.0 then (λ handled. held-changing its) (λ handled. changing-busy world it.0 (held-changing its)) followed)
 
 -- until it is released it keeps its memory
 keeps : (world : World) (step : Step) → is_released (next world step).source.phase ≡ false → Keeps world step
@@ -618,7 +566,7 @@ source-logged at key steps followed kept =
     let home = at.one.object.space in
     logged-from at.one at.by.on.object _ _ at.own
     (every-ends (source at.by home) at.by.on.object home IsKept (λ world number state step it then follows. state-next at.by home world number state step it (keeps world step then.1) follows) at.world key
-    (free [] at.one (record { same = at.same; told = at.quiet; below = tt; own = at.own; there = refl })) steps (all-kept at.world steps at.reached kept) followed)
+    (free [] at.one (record { same = seen-quiet at.one at.quiet ∙ at.same; told = at.quiet; below = tt; own = at.own; there = refl })) steps (all-kept at.world steps at.reached kept) followed)
 
 -- After the release nothing is written
 
@@ -657,7 +605,7 @@ released-apart phase h = (grind (arith, nat_tests), grind (arith, nat_tests))
 nothing-written : (by : Watch) (home key : ℕ) (begun : List Open) (world : World) (step : Step) → IsReached world → is_released world.source.phase ≡ true → source_writes by home key begun world step (outcome world step) ≡ calls_written key begun []
 nothing-written by home key begun world (Step.Issue cpu command) reached released = one (outcome world (Step.Issue cpu command)) where
   one : (result : Result Effect Refusal) → source_writes by home key begun world (Step.Issue cpu command) result ≡ calls_written key begun []
-  one (Ok effect) = ap (λ b. cond b (calls_written key begun []) (issue_written home key begun (unnamed world.source.guest.space) command (map_call command))) (released-facts world reached released).1
+  one (Ok effect) = ap (λ b. cond b (calls_written key begun []) (issue_written home key begun (unnamed world.source.guest.space) cpu command (map_call command))) (released-facts world reached released).1
   one (Err refusal) = refl
 nothing-written by home key begun world Step.SourceRead reached released = one (outcome world Step.SourceRead) refl where
   one : (result : Result Effect Refusal) → outcome world Step.SourceRead ≡ result → source_writes by home key begun world Step.SourceRead result ≡ calls_written key begun []
@@ -705,10 +653,10 @@ same-ends {name = name} {start = start} {one = one} {space = space} log more lin
       last = ends.last;
       whole = ends.whole ∙ sym lines;
       leads = subst (λ b. Leads start ends.steps (under_way ends.last.kernel b)) (sym begun) ends.leads;
-      leaves = ap (cleared ends.last.space) begun ∙ ends.leaves;
+      leaves = ap (modelled ends.last.space) begun ∙ ends.leaves;
       own = ends.own;
       quiet = λ none. ends.quiet (sym begun ∙ none);
-      differs = ends.differs;
+      differs = subst (λ l. Differs l one.kernel ends.last.kernel) (sym lines) ends.differs;
     }
 
 -- a run of the log of these steps

@@ -7,10 +7,10 @@ use Rattle.std.specs.Prelude.{if◌then◌else◌}
 use Rattle.std.specs.List.{list_any}
 use Rattle.std.proofs.lemmas.List.Folds.{list_any-append}
 use Rattle.mig_base.specs.declared.schedule.Step.{Step}
-use Rattle.mig_base.specs.Ranges.{pages_of}
-use Rattle.mig_base.specs.Tests.{is_empty}
+use Rattle.foundation.specs.Ranges.{pages_of}
+use Rattle.foundation.specs.Tests.{is_empty}
 use Rattle.mig_base.specs.Userfault.{is_watched}
-use Rattle.mig_base.proofs.TestLemmas.{or_first}
+use Rattle.foundation.proofs.TestLemmas.{or_first}
 use Rattle.mig_model.specs.Ioctls.{has_events}
 use Rattle.mig_model.specs.Migration.{World, next}
 use Rattle.mig_model.specs.Space.{Space}
@@ -19,19 +19,19 @@ use Rattle.kernel_rules.specs.MapCalls.{all_cleared, clearing, with_all_told, wi
 use Rattle.kernel_rules.specs.Runs as runs
 use Rattle.kernel_rules.specs.Runs.{Leads, effect_of, line_of, lines_of, on_space, takes, world_with}
 use Rattle.kernel_laws.specs.Agreement.{Counterparts, telling}
-use Rattle.kernel_laws.specs.Logs.{AreFollowed, AreLate, IsFollowed, IsLogged, IsQuiet, Node, Open, Written, at_rest, cleared, log_of, space_after, under_way, without_cleared}
+use Rattle.kernel_laws.specs.Logs.{AreFollowed, IsFollowed, IsLogged, IsQuiet, Node, Open, Written, at_rest, cleared, have_mremap, log_of, modelled, space_after, under_way, unread_of, with_unread, without_cleared}
 use Rattle.kernel_laws.proofs.Beside.{has_key, own-found, own-without, world_of}
 use Rattle.kernel_laws.proofs.Clearing.{untold-remove}
 use Rattle.kernel_laws.proofs.DiscardRuns.{Discard, dropped_by, noted_by, pending_for, starts, stops, waiting}
 use Rattle.kernel_laws.proofs.FaultReads.{page-requeued, requeued, sound-requeued}
-use Rattle.kernel_laws.proofs.LogRuns.{AreAll, first-of, leads-append}
-use Rattle.kernel_laws.proofs.OpenCalls.{AreBelow, HasCalls, Pending, begun_calls, open_of, over_of}
+use Rattle.kernel_laws.proofs.LogRuns.{AreAll, Differs, both-differ, first-of, leads-append}
+use Rattle.kernel_laws.proofs.OpenCalls.{AreBelow, HasCalls, Pending, begun_calls, open_of, over_of, seen, unread-last}
 use Rattle.kernel_laws.proofs.MapRuns.{map-call}
 use Rattle.kernel_laws.proofs.Unmaps.{new-call, remove-tells}
 
--- no MADV_DONTNEED is under way: the kernel's object agrees with the node's
+-- no MADV_DONTNEED is under way: the kernel's object agrees with the node's, but for the events of calls under way
 pub record Free (name home key : ℕ) (space : Space) (calls : List Pending) (one : Counterparts) : Type 0 where
-  pub same : one.space ≡ space
+  pub same : seen calls one.space ≡ space
   pub told : HasCalls calls one
   pub below : AreBelow key calls
   pub own : name ≡ one.name
@@ -43,7 +43,7 @@ pub record Held (name home key : ℕ) (space : Space) (it : Discard) (calls : Li
   pub later : List runs.Begun
   pub is : begun_calls calls ≡ before ++ later
   pub none : list_any (has_key it.key) (before ++ later) ≡ false
-  pub same : dropped_by it one.space ≡ space
+  pub same : dropped_by it (seen calls one.space) ≡ space
   pub told : HasCalls calls one
   pub below : AreBelow key calls
   pub low : it.key < key
@@ -79,7 +79,7 @@ pub record Next (name home : ℕ) (start : runs.World) (one : Counterparts) (wri
   pub steps : List runs.Step
   pub whole : lines_of steps ≡ written.lines
   pub leads : Leads start steps (run_world state)
-  pub differs : AreLate one.kernel → AreLate (counterpart state).kernel
+  pub differs : Differs written.lines one.kernel (counterpart state).kernel
 
 -- and one to its end
 pub record Ends (name : ℕ) (start : runs.World) (one : Counterparts) (log : Written) (space : Space) : Type 0 where
@@ -87,10 +87,10 @@ pub record Ends (name : ℕ) (start : runs.World) (one : Counterparts) (log : Wr
   pub last : Counterparts
   pub whole : lines_of steps ≡ log.lines
   pub leads : Leads start steps (under_way last.kernel log.begun)
-  pub leaves : cleared last.space log.begun ≡ space
+  pub leaves : modelled last.space log.begun ≡ space
   pub own : name ≡ last.name
   pub quiet : log.begun ≡ [] → IsQuiet last.kernel
-  pub differs : AreLate one.kernel → AreLate last.kernel
+  pub differs : Differs log.lines one.kernel last.kernel
 
 -- The end
 
@@ -109,10 +109,10 @@ ends-free name home key space calls one at =
       last = one;
       whole = refl;
       leads = refl;
-      leaves = none-cleared key calls one.space at.below ∙ at.same;
+      leaves = none-cleared key calls (seen calls one.space) at.below ∙ at.same;
       own = at.own;
       quiet = λ none. quiet-by calls one none at.told;
-      differs = λ h. h;
+      differs = λ moves none h. h;
     }
 
 cleared-both : (space : Space) (begun more : List Open) → cleared space (begun ++ more) ≡ cleared (cleared space begun) more
@@ -174,11 +174,12 @@ ends-held name home key space it calls one at =
             ∙ (λ i. world_with (world_of kernel ((own-without (waiting it) at.before at.later at.none ∙ sym at.is) i ++ over ∷ [])) (taken i)),
         ap (world_of after) (sym (map-append over_open (map open_of calls) (open_of p ∷ []))),
       );
-      leaves = cleared-both (requeued one.space one.space.object.faults events) (map open_of calls) (open_of p ∷ [])
-          ∙ ap (λ s. without_cleared s p.call) (none-cleared key calls (requeued one.space one.space.object.faults events) at.below) ∙ at.same;
+      leaves = ap (λ l. cleared (with_unread one.space l) (map open_of calls ++ open_of p ∷ [])) (unread-last calls p)
+          ∙ cleared-both (with_unread one.space (unread_of (map open_of calls) ++ noted_by it ∷ [])) (map open_of calls) (open_of p ∷ [])
+          ∙ ap (λ s. without_cleared s p.call) (none-cleared key calls (with_unread one.space (unread_of (map open_of calls) ++ noted_by it ∷ [])) at.below) ∙ at.same;
       own = at.own;
       quiet = λ nothing. absurd (false≢true (sym (some-last (map open_of calls) (open_of p)) ∙ ap is_empty nothing));
-      differs = λ h. h;
+      differs = λ moves none h. h;
     }
   where
     over_out : runs.Outcome
@@ -204,7 +205,7 @@ next-ends name home start one written log space last first rest =
       leaves = rest.leaves;
       own = rest.own;
       quiet = rest.quiet;
-      differs = λ h. rest.differs (first.differs h);
+      differs = both-differ written.lines log.lines one.kernel (counterpart first.state).kernel rest.last.kernel first.differs rest.differs;
     }
 
 pub every-ends : (node : Node) (name home : ℕ) (holds : World → Type 0) →
@@ -224,4 +225,4 @@ every-ends node name home holds moves world key state (step ∷ steps) all follo
 -- from a kernel at rest on
 pub logged-from : (one : Counterparts) (name : ℕ) (log : Written) (space : Space) → name ≡ one.name → Ends name (at_rest one.kernel) one log space → IsLogged one log space
 logged-from one name log space same ends =
-    record { steps = ends.steps; last = ends.last; whole = ends.whole; leads = ends.leads; leaves = ends.leaves; name = sym ends.own ∙ same; quiet = ends.quiet; differs = ends.differs }
+    record { steps = ends.steps; last = ends.last; whole = ends.whole; leads = ends.leads; leaves = ends.leaves; name = sym ends.own ∙ same; quiet = ends.quiet; differs = λ before. ends.differs (have_mremap log.lines) (λ none. none) before }

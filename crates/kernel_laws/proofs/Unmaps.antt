@@ -1,6 +1,6 @@
 -- A map call that unmaps pages: both objects forget them, and both have the same UNMAP to tell if any of them was registered.
 use Rattle.std.proofs.lemmas.Bool.Decides.{nat_tests}
-use Rattle.std.proofs.lemmas.Bool.{eqb-true, false≢true, not-true}
+use Rattle.std.proofs.lemmas.Bool.{eqb-true, false≢true, not-true, or_from}
 use Rattle.std.proofs.lemmas.Grind.{flat_map-append}
 use Rattle.std.proofs.lemmas.List.Concat.{flat_map-cons}
 use Rattle.std.proofs.lemmas.List.Elements.{filter-append}
@@ -9,20 +9,21 @@ use Rattle.std.proofs.lemmas.List.{append-nil, map-append}
 use Rattle.std.proofs.Common.{◌≡◌, ℕ, zero, suc, ◌<◌, ◌≤◌, ◌+◌, ◌-◌, ◌*◌, ◌^◌, ◌&&◌, ◌||◌, Bool, true, false, not, cond, eqb, leb, Option, Some, None, List, [], ◌∷◌, ◌++◌, filter, length, map, arith, refl, sym, ap, subst, ◌∙◌}
 use Rattle.std.specs.Prelude.{is_some, max, min}
 use Rattle.std.specs.Ordering.{nat_cmp}
-use Rattle.std.specs.List.{flat_map, list_any}
+use Rattle.std.specs.List.{list_any}
 use Rattle.std.specs.FinMap.{FinMap, contains_key, get}
 use Rattle.std.specs.FinSet.{contains}
 use Rattle.mig_base.specs.declared.Prot.{Prot}
+use Rattle.mig_base.specs.declared.message.Message.{Message}
 use Rattle.mig_base.specs.declared.message.Message.TheVariants.{Unmap}
-use Rattle.mig_base.specs.Bits.{is_one}
+use Rattle.foundation.specs.Bits.{is_one}
 use Rattle.mig_base.specs.Pages.{remove_range}
-use Rattle.mig_base.specs.Ranges.{in_range, none_below}
+use Rattle.foundation.specs.Ranges.{in_range, none_below}
 use Rattle.mig_base.specs.Sets.{without}
-use Rattle.mig_base.specs.Tests.{is_empty}
+use Rattle.foundation.specs.Tests.{is_empty}
 use Rattle.mig_base.specs.Userfault.{Noted, is_registered, is_watched, unregistered}
 use Rattle.mig_base.proofs.PageLemmas.{get-remove_range}
-use Rattle.mig_base.proofs.RangeLemmas.{in_range_bounds, none_below-not}
-use Rattle.mig_base.proofs.TestLemmas.{and_first, and_second, eqb-self, or_first, or_second}
+use Rattle.foundation.proofs.RangeLemmas.{in_range_bounds, none_below-not}
+use Rattle.foundation.proofs.TestLemmas.{and_first, and_second, eqb-self, or_first, or_second}
 use Rattle.mig_model.specs.Space.{IsSoundSpace, Space, all_queued, message_if}
 use Rattle.uffd_log.specs.declared.call.Message.{Message as LogMessage}
 use Rattle.uffd_log.specs.declared.call.Message.TheVariants as log
@@ -32,15 +33,16 @@ use Rattle.kernel_rules.specs.declared.known.Page.{Page}
 use Rattle.kernel_rules.specs.declared.object.Object.{Object}
 use Rattle.kernel_rules.specs.declared.object.Registration.{Registration}
 use Rattle.kernel_rules.specs.Ioctls.{is_own, span_of}
-use Rattle.kernel_rules.specs.MapCalls.{forgotten, is_told, objects_in, told_in, unmapped, watchers_of, watches_in, with_calling, with_events, with_name, would_tell}
-use Rattle.kernel_rules.specs.Reads.{is_same_event}
+use Rattle.kernel_rules.specs.MapCalls.{forgotten, is_told, objects_in, told_in, unmap_told, unmapped, watchers_of, watches_in, with_calling, with_events, with_name, would_tell}
 use Rattle.kernel_rules.specs.State.{Kernel, page_is, some_page}
-use Rattle.kernel_laws.specs.Agreement.{Agree, AgreesAt, AreUntold, Counterparts, are_once, has_page, have_ranks, is_of_another, message_of, messages_of, removes, telling}
+use Rattle.kernel_laws.specs.Agreement.{Agree, AgreesAt, AreUntold, Counterparts, are_once, has_page, is_of_another, message_of, messages_of, removes, telling}
+use Rattle.kernel_laws.specs.Logs.{noted_by}
 use Rattle.kernel_laws.specs.Maps.{MapCall, is_new_call}
 use Rattle.mig_base.proofs.SetSizes.{only_where}
 use Rattle.kernel_laws.proofs.Accesses.{asked}
 use Rattle.kernel_laws.proofs.EventReads.{same-rest, turned}
 use Rattle.kernel_laws.proofs.Events.{any-weaker}
+use Rattle.kernel_laws.proofs.Tellings.{AreEvents, are-ranked, by-name, no-events, noted-texts, of-this, own-events, queued-all, ranked, ranked-messages, ranks-after, tellers, texts_of, untold-texts, untold_by, with_messages}
 use Rattle.kernel_laws.proofs.Registers.{gone, kept, still-protected, was-registered}
 
 -- A page in a range
@@ -149,7 +151,7 @@ some-watch kernel space first end name own (range ∷ ranges) some =
     first-name kernel space first end name range.object ranges (watches_in kernel space first end range) (own range) (still-one kernel space first end name own ranges)
     (λ none. some-watch kernel space first end name own ranges (sym (ap (λ b. b || list_any (watches_in kernel space first end) ranges) none) ∙ some))
 
-watchers : (one : Counterparts) (first count : ℕ) (w : Bool) → is_watched one.space.object first count ≡ w → objects_in one.kernel one.object.space first (first + count) ≡ cond w (one.name ∷ []) []
+pub watchers : (one : Counterparts) (first count : ℕ) (w : Bool) → is_watched one.space.object first count ≡ w → objects_in one.kernel one.object.space first (first + count) ≡ cond w (one.name ∷ []) []
 watchers one first count false is =
     none-watch one.kernel one.object.space first (first + count) []
     (λ range. only_where (watches_in one.kernel one.object.space first (first + count) range) (is_watched one.space.object first count)
@@ -173,6 +175,9 @@ three-bits a b c h = (grind (arith, nat_tests), grind (arith, nat_tests), grind 
 asked-for : (it : MapCall) (bit : ℕ) → is_one it.one.space.object.features bit ≡ true → is_told it.one.kernel bit it.one.name ≡ true
 asked-for it bit is = ap (would_tell bit) it.one.agree.named ∙ asked it.one.space it.one.kernel it.one.name it.one.object bit it.one.agree it.enabled ∙ is
 
+pub tells-remap : (it : MapCall) → is_told it.one.kernel 2 it.one.name ≡ true
+tells-remap it = asked-for it 2 (three-bits (is_one it.one.space.object.features 2) (is_one it.one.space.object.features 3) (is_one it.one.space.object.features 6) it.asked).0
+
 tells-remove : (it : MapCall) → is_told it.one.kernel 3 it.one.name ≡ true
 tells-remove it = asked-for it 3 (three-bits (is_one it.one.space.object.features 2) (is_one it.one.space.object.features 3) (is_one it.one.space.object.features 6) it.asked).1
 
@@ -186,8 +191,18 @@ kept-told told name false is = refl
 pub unmap-tells : (it : MapCall) (first count : ℕ) (w : Bool) → is_watched it.one.space.object first count ≡ w → told_in it.one.kernel 6 it.one.object.space first (first + count) ≡ cond w (it.one.name ∷ []) []
 unmap-tells it first count w is = ap (filter (is_told it.one.kernel 6)) (watchers it.one first count w is) ∙ kept-told (is_told it.one.kernel 6) it.one.name w (tells-unmap it)
 
+pub remap-tells : (it : MapCall) (first count : ℕ) (w : Bool) → is_watched it.one.space.object first count ≡ w → told_in it.one.kernel 2 it.one.object.space first (first + count) ≡ cond w (it.one.name ∷ []) []
+remap-tells it first count w is = ap (filter (is_told it.one.kernel 2)) (watchers it.one first count w is) ∙ kept-told (is_told it.one.kernel 2) it.one.name w (tells-remap it)
+
 pub remove-tells : (it : MapCall) (first count : ℕ) (w : Bool) → is_watched it.one.space.object first count ≡ w → told_in it.one.kernel 3 it.one.object.space first (first + count) ≡ cond w (it.one.name ∷ []) []
 remove-tells it first count w is = ap (filter (is_told it.one.kernel 3)) (watchers it.one first count w is) ∙ kept-told (is_told it.one.kernel 3) it.one.name w (tells-remove it)
+
+-- what a call that unmaps a range tells
+pub unmap-first : (it : MapCall) (first count start stop : ℕ) → start ≡ first * 4096 → stop ≡ (first + count) * 4096 →
+    unmap_told it.one.kernel it.key it.one.object.space first count ≡ with_messages it.one.kernel it.key it.one.name (message_if (is_watched it.one.space.object first count) (Unmap start stop))
+unmap-first it first count start stop low high =
+    let w = is_watched it.one.space.object first count in
+    (λ i. with_events it.one.kernel it.key (log.Unmap (sym low i) (sym high i)) (unmap-tells it first count w refl i)) ∙ by-name it.one.kernel it.key it.one.name (Unmap start stop) w
 
 -- What is unread
 
@@ -210,17 +225,6 @@ once-more key (call ∷ calls) once new =
     ∙ neither twice (eqb key call) (not-true twice (and_first (not twice) (are_once calls) once)) (turned call key (or_first (eqb call key) (list_any (λ other. eqb other key) calls) new)))
     (once-more key calls (and_second (not twice) (are_once calls) once) (or_second (eqb call key) (list_any (λ other. eqb other key) calls) new))
 
-ranks-more : (event : Untold) (events : List Untold) → have_ranks events ≡ true → list_any (λ (one : Untold). eqb one.key event.key) events ≡ false → have_ranks (events ++ event ∷ []) ≡ true
-ranks-more event [] ranks new = refl
-ranks-more event (first ∷ events) ranks new =
-    let test = λ (other : Untold). eqb other.key first.key && eqb other.rank first.rank in
-    let twin = list_any test events in
-    not-and (list_any test (events ++ event ∷ [])) (have_ranks (events ++ event ∷ []))
-    (list_any-append test events (event ∷ [])
-    ∙ neither twin (eqb event.key first.key && eqb event.rank first.rank) (not-true twin (and_first (not twin) (have_ranks events) ranks))
-    (ap (λ b. b && eqb event.rank first.rank) (turned first.key event.key (or_first (eqb first.key event.key) (list_any (λ (one : Untold). eqb one.key event.key) events) new))))
-    (ranks-more event events (and_second (not twin) (have_ranks events) ranks) (or_second (eqb first.key event.key) (list_any (λ (one : Untold). eqb one.key event.key) events) new))
-
 -- the call is new
 pub record IsNew (kernel : Kernel) (key : ℕ) : Type 0 where
   pub calls : list_any (λ other. eqb other key) kernel.calls ≡ false
@@ -239,61 +243,53 @@ new-call kernel key is =
     let parts = three-not (list_any (λ other. eqb other key) kernel.calls) (list_any (λ (one : Untold). eqb one.key key) kernel.events) (is_some (span_of kernel.untold key)) is in
     record { calls = parts.0; events = parts.1; spans = no-some (span_of kernel.untold key) parts.2 }
 
--- it has nothing to tell
-untold-none : (name : ℕ) (kernel : Kernel) (key : ℕ) (events : List Noted) → IsNew kernel key → AreUntold name kernel events → AreUntold name (record kernel { calls = kernel.calls ++ key ∷ [] }) events
-untold-none name kernel key events new are =
-    let none : messages_of kernel key ≡ [] = λ i. map (λ (one : Untold). one.message) (filtered-none (λ (one : Untold). eqb one.key key) kernel.events new.events i) ++ removes (new.spans i) in
-    record {
-      same = flat_map-append (messages_of kernel) kernel.calls (key ∷ []) ∙ ap (λ l. flat_map (messages_of kernel) kernel.calls ++ l) (flat_map-cons (messages_of kernel) key [] ∙ ap (λ l. l ++ []) none)
-          ∙ append-nil (flat_map (messages_of kernel) kernel.calls)
-          ∙ are.same;
-      once = once-more key kernel.calls are.once new.calls;
-      ranks = are.ranks;
-      own = are.own;
-      tells = are.tells;
-      none_queued = are.none_queued;
-    }
-
--- it has one message to tell the object
-pub told-more : (name key other : ℕ) (told : List Told) (b : Bool) → eqb key other ≡ b → (b ≡ false → list_any (λ (one : Told). eqb one.key other && eqb one.object name) told ≡ true) →
-    (list_any (λ (one : Told). eqb one.key other && eqb one.object name) told || (b && eqb name name || false)) ≡ true
-told-more name key other told true is old = ap (λ b. list_any (λ (one : Told). eqb one.key other && eqb one.object name) told || (b || false)) (eqb-self name) ∙ or_end (list_any (λ (one : Told). eqb one.key other && eqb one.object name) told) where
+-- whoever has a message tells the object
+pub told-more : (name key other : ℕ) (told : List Told) (b rest : Bool) → eqb key other ≡ b → (b ≡ false → list_any (λ (one : Told). eqb one.key other && eqb one.object name) told ≡ true) →
+    (list_any (λ (one : Told). eqb one.key other && eqb one.object name) told || (b && eqb name name || rest)) ≡ true
+told-more name key other told true rest is old = ap (λ b. list_any (λ (one : Told). eqb one.key other && eqb one.object name) told || (b || rest)) (eqb-self name) ∙ or_end (list_any (λ (one : Told). eqb one.key other && eqb one.object name) told) where
   or_end : (b : Bool) → (b || true) ≡ true
   or_end b = grind (arith, nat_tests)
-told-more name key other told false is old = ap (λ b. b || false) (old refl)
+told-more name key other told false rest is old = ap (λ b. b || rest) (old refl)
 
-untold-more : (name : ℕ) (kernel : Kernel) (key rank : ℕ) (message : LogMessage) (events : List Noted) (noted : Noted) → IsNew kernel key → AreUntold name kernel events → message ≡ message_of noted.message → is_same_event message message ≡ true →
-    AreUntold name
-    (record kernel {
-      calls = kernel.calls ++ key ∷ [];
-      told = kernel.told ++ record { key = key; object = name } ∷ [];
-      events = kernel.events ++ record { key = key; rank = rank; object = name; message = message } ∷ [];
-    })
-    (events ++ noted ∷ [])
-untold-more name kernel key rank message events noted new are is same_event =
-    let event : Untold = record { key = key; rank = rank; object = name; message = message } in
-    let teller : Told = record { key = key; object = name } in
-    let now : Kernel = record kernel { calls = kernel.calls ++ key ∷ []; told = kernel.told ++ teller ∷ []; events = kernel.events ++ event ∷ [] } in
+tells-it : (name key other : ℕ) (told : List Told) (messages : List Message) (b : Bool) → eqb key other ≡ b → (b ≡ true → is_empty (texts_of messages) ≡ false) → (b ≡ false → list_any (λ (one : Told). eqb one.key other && eqb one.object name) told ≡ true) →
+    list_any (λ (one : Told). eqb one.key other && eqb one.object name) (told ++ tellers key name messages) ≡ true
+tells-it name key other told [] true is some old = absurd (false≢true (sym (some refl)))
+tells-it name key other told [] false is some old = list_any-append (λ (one : Told). eqb one.key other && eqb one.object name) told [] ∙ ap (λ b. b || false) (old refl)
+tells-it name key other told (message ∷ messages) b is some old =
+    let test = λ (one : Told). eqb one.key other && eqb one.object name in
+    let rest = list_any test (tellers key name messages) in
+    list_any-append test told (tellers key name (message ∷ messages)) ∙ ap (λ e. list_any test told || (e && eqb name name || rest)) is ∙ told-more name key other told b rest is old
+
+-- a new call has these messages to tell the object
+pub untold-more : (name : ℕ) (kernel : Kernel) (key : ℕ) (messages : List Message) (events more : List Noted) → IsNew kernel key → AreUntold name kernel events → texts_of messages ≡ map (λ (noted : Noted). message_of noted.message) more → AreEvents messages →
+    AreUntold name (record (with_messages kernel key name messages) { calls = kernel.calls ++ key ∷ [] }) (events ++ more)
+untold-more name kernel key messages events more new are is these =
+    let rank = length kernel.told in
+    let mine = untold_by key name (ranked rank messages) in
+    let now : Kernel = record (with_messages kernel key name messages) { calls = kernel.calls ++ key ∷ [] } in
     let texts = λ (l : List Untold). map (λ (one : Untold). one.message) l in
-    let split = λ (other : ℕ). filter-append (λ (one : Untold). eqb one.key other) kernel.events (event ∷ []) in
+    let split = λ (other : ℕ). filter-append (λ (one : Untold). eqb one.key other) kernel.events mine in
     let others : (other : ℕ) → eqb key other ≡ false → messages_of now other ≡ messages_of kernel other =
     λ other apart.
     ap (λ l. texts l ++ removes (span_of kernel.untold other))
-    (split other ∙ ap (λ b. filter (λ (one : Untold). eqb one.key other) kernel.events ++ cond b (event ∷ []) []) apart ∙ append-nil (filter (λ (one : Untold). eqb one.key other) kernel.events)) in
-    let own : messages_of now key ≡ message ∷ [] =
+    (split other ∙ ap (λ l. filter (λ (one : Untold). eqb one.key other) kernel.events ++ l) (filtered-none (λ (one : Untold). eqb one.key other) mine (no-events key name other (ranked rank messages) apart))
+    ∙ append-nil (filter (λ (one : Untold). eqb one.key other) kernel.events)) in
+    let own : messages_of now key ≡ texts_of messages =
     (λ i. texts (split key i) ++ removes (new.spans i))
-    ∙ (λ i. texts (filtered-none (λ (one : Untold). eqb one.key key) kernel.events new.events i ++ cond (eqb-self key i) (event ∷ []) []) ++ []) in
+    ∙ (λ i. texts (filtered-none (λ (one : Untold). eqb one.key key) kernel.events new.events i ++ own-events key name (ranked rank messages) i) ++ [])
+    ∙ append-nil (texts mine) ∙ untold-texts key name rank messages in
     record {
       same = flat_map-append (messages_of now) kernel.calls (key ∷ [])
-          ∙ (λ i. same-rest kernel now key kernel.calls new.calls others i ++ (flat_map-cons (messages_of now) key [] ∙ ap (λ l. l ++ []) own) i)
-          ∙ (λ i. are.same i ++ is i ∷ [])
-          ∙ sym (map-append (λ (one : Noted). message_of one.message) events (noted ∷ []));
+          ∙ (λ i. same-rest kernel now key kernel.calls new.calls others i ++ (flat_map-cons (messages_of now) key [] ∙ append-nil (messages_of now key) ∙ own ∙ is) i)
+          ∙ (λ i. are.same i ++ map (λ (one : Noted). message_of one.message) more)
+          ∙ sym (map-append (λ (one : Noted). message_of one.message) events more);
       once = once-more key kernel.calls are.once new.calls;
-      ranks = ranks-more event kernel.events are.ranks new.events;
-      own = list_any-append (is_of_another name) kernel.events (event ∷ []) ∙ neither (list_any (is_of_another name) kernel.events) (is_of_another name event) are.own (λ i. not (eqb-self name i && same_event i));
+      ranks = ranks-after key name (ranked rank messages) kernel.events (are-ranked rank messages) are.ranks new.events;
+      own = list_any-append (is_of_another name) kernel.events mine
+          ∙ or_from (list_any (is_of_another name) kernel.events) (list_any (is_of_another name) mine) are.own (of-this key name (ranked rank messages) (subst AreEvents (sym (ranked-messages rank messages)) these));
       tells = λ other some.
-          list_any-append (λ (one : Told). eqb one.key other && eqb one.object name) kernel.told (teller ∷ [])
-          ∙ told-more name key other kernel.told (eqb key other) refl (λ apart. are.tells other (ap is_empty (sym (others other apart)) ∙ some));
+          tells-it name key other kernel.told messages (eqb key other) refl (λ same. ap is_empty (sym own) ∙ ap (λ n. is_empty (messages_of now n)) (eqb-true key other same) ∙ some)
+          (λ apart. are.tells other (ap is_empty (sym (others other apart)) ∙ some));
       none_queued = are.none_queued;
     }
 
@@ -337,37 +333,35 @@ page-unmapped space new first count name page false (Some one) bytes guards miss
 unmapped-by : (it : MapCall) (areas : FinMap nat_cmp Prot) (first count start stop cpu : ℕ) (w : Bool) → start ≡ first * 4096 → stop ≡ (first + count) * 4096 → IsSoundSpace (unmapped_space it.one.space areas first count start stop cpu w) →
     Agree (unmapped_space it.one.space areas first count start stop cpu w)
     (forgotten (with_calling (with_events it.one.kernel it.key (log.Unmap (first * 4096) ((first + count) * 4096)) (cond w (it.one.name ∷ []) [])) it.key) it.one.object.space first count) it.one.name it.one.object
-unmapped-by it areas first count start stop cpu false low high sound =
+unmapped-by it areas first count start stop cpu w low high sound =
     let agree = it.one.agree in
     let at = λ (page : ℕ). ap (λ e. e && in_range first count page) (eqb-self it.one.object.space) in
-    record {
-      sound = sound;
+    let messages = message_if w (Unmap start stop) in
+    let told : with_messages it.one.kernel it.key it.one.name messages ≡ with_events it.one.kernel it.key (log.Unmap (first * 4096) ((first + count) * 4096)) (cond w (it.one.name ∷ []) []) =
+    sym (by-name it.one.kernel it.key it.one.name (Unmap start stop) w) ∙ (λ i. with_events it.one.kernel it.key (log.Unmap (low i) (high i)) (cond w (it.one.name ∷ []) [])) in
+    let object = unregistered it.one.space.object first count in
+    let queued = queued-all object messages cpu in
+    let new : Space =
+    record { host = record { areas = areas; bytes = remove_range it.one.space.host.bytes first count }; protected = without it.one.space.protected first count; object = record object { events = object.events ++ noted_by cpu messages } } in
+    let same : new ≡ unmapped_space it.one.space areas first count start stop cpu w = λ i. record new { object = sym queued i } in
+    subst (λ s. Agree s (forgotten (with_calling (with_events it.one.kernel it.key (log.Unmap (first * 4096) ((first + count) * 4096)) (cond w (it.one.name ∷ []) [])) it.key) it.one.object.space first count) it.one.name it.one.object) same
+    (subst (λ k. Agree new (forgotten (with_calling k it.key) it.one.object.space first count) it.one.name it.one.object) told
+    (record {
+      sound = subst IsSoundSpace (sym same) sound;
       named = agree.named;
       features = agree.features;
       pages = λ page.
-          page-unmapped it.one.space (unmapped_space it.one.space areas first count start stop cpu false) first count it.one.name page (eqb it.one.object.space it.one.object.space && in_range first count page)
+          page-unmapped it.one.space new first count it.one.name page (eqb it.one.object.space it.one.object.space && in_range first count page)
           (it.one.kernel.pages it.one.object.space page) refl refl refl refl (sym (at page)) (agree.pages page);
       unread = agree.unread;
-      untold = untold-none it.one.name (telling it.one.kernel) it.key it.one.space.object.events (new-call (telling it.one.kernel) it.key it.is_new) agree.untold;
+      untold = untold-more it.one.name (telling it.one.kernel) it.key messages it.one.space.object.events (noted_by cpu messages) (new-call (telling it.one.kernel) it.key it.is_new) agree.untold (sym (noted-texts cpu messages)) (event-if w start stop);
       alone = agree.alone;
       ranged = λ page registered. agree.ranged page (was-registered it.one.space first count page registered);
-    }
-unmapped-by it areas first count start stop cpu true low high sound =
-    let agree = it.one.agree in
-    let at = λ (page : ℕ). ap (λ e. e && in_range first count page) (eqb-self it.one.object.space) in
-    record {
-      sound = sound;
-      named = agree.named;
-      features = agree.features;
-      pages = λ page.
-          page-unmapped it.one.space (unmapped_space it.one.space areas first count start stop cpu true) first count it.one.name page (eqb it.one.object.space it.one.object.space && in_range first count page)
-          (it.one.kernel.pages it.one.object.space page) refl refl refl refl (sym (at page)) (agree.pages page);
-      unread = agree.unread;
-      untold = untold-more it.one.name (telling it.one.kernel) it.key (length it.one.kernel.told) (log.Unmap (first * 4096) ((first + count) * 4096)) it.one.space.object.events (record { message = Unmap start stop; cpu = cpu })
-          (new-call (telling it.one.kernel) it.key it.is_new) agree.untold (λ i. log.Unmap (sym low i) (sym high i)) (λ i. eqb-self (first * 4096) i && eqb-self ((first + count) * 4096) i);
-      alone = agree.alone;
-      ranged = λ page registered. agree.ranged page (was-registered it.one.space first count page registered);
-    }
+    }))
+  where
+    event-if : (w : Bool) (start stop : ℕ) → AreEvents (message_if w (Unmap start stop))
+    event-if true start stop = (refl, tt)
+    event-if false start stop = tt
 
 pub unmapped-agree : (it : MapCall) (areas : FinMap nat_cmp Prot) (first count start stop cpu : ℕ) → start ≡ first * 4096 → stop ≡ (first + count) * 4096 →
     IsSoundSpace (unmapped_space it.one.space areas first count start stop cpu (is_watched it.one.space.object first count)) →

@@ -8,10 +8,10 @@ use Rattle.mig_base.specs.declared.command.Command.{Command}
 use Rattle.mig_base.specs.declared.command.Errno.{Errno}
 use Rattle.mig_base.specs.declared.message.Message.{Message}
 use Rattle.mig_base.specs.declared.wake.Wake.{Wake}
-use Rattle.mig_base.specs.Bits.{is_one}
+use Rattle.foundation.specs.Bits.{is_one}
 use Rattle.mig_base.specs.Bytes.{zero_page}
 use Rattle.mig_base.specs.Commands.{is_store, page_of}
-use Rattle.mig_base.specs.Tests.{first_holding}
+use Rattle.foundation.specs.Tests.{first_holding}
 use Rattle.mig_base.specs.Userfault.{Noted, Object, fault_queued, is_fault_at, message_read, next_message, next_of, read_by, thread_id, waits_fault}
 use Rattle.mig_model.specs.Guest.{Guest}
 use Rattle.mig_model.specs.Handlers.{IsWake, IsWriteProtect, IsZeroPage, MayRegister, registered_in_turn}

@@ -5,7 +5,7 @@ use Rattle.std.proofs.lemmas.List.Elements.{filter-append}
 use Rattle.std.proofs.lemmas.Option.{none-some, same_Some}
 use Rattle.std.proofs.Common.{◌≡◌, ℕ, ◌&&◌, Bool, true, false, not, cond, eqb, Option, Some, None, List, [], ◌∷◌, ◌++◌, filter, refl, sym, ap, subst, ◌∙◌}
 use Rattle.mig_base.specs.Userfault.{Noted}
-use Rattle.mig_base.proofs.TestLemmas.{and_false, eqb-self}
+use Rattle.foundation.proofs.TestLemmas.{and_false, eqb-self}
 use Rattle.uffd_log.specs.declared.call.Message.{Message}
 use Rattle.uffd_log.specs.declared.call.Message.TheVariants as log
 use Rattle.kernel_rules.specs.declared.fault.Fault.{Fault}

@@ -3,7 +3,7 @@ use Rattle.std.proofs.lemmas.Bool.Decides.{nat_tests}
 use Rattle.std.proofs.Common.{◌≡◌, ℕ, ◌/◌, ◌&&◌, ◌||◌, Bool, true, false, not, [], ◌∷◌, arith, refl}
 use Rattle.mig_base.specs.declared.command.Errno.{Errno}
 use Rattle.mig_base.specs.declared.wake.Wake.{Wake}
-use Rattle.mig_base.specs.Tests.{first_holding}
+use Rattle.foundation.specs.Tests.{first_holding}
 use Rattle.mig_model.specs.Ioctls.{answered_by, is_bad_range, wake_answer}
 use Rattle.mig_model.specs.Space.{Space}
 use Rattle.kernel_rules.specs.declared.object.Object.{Object}

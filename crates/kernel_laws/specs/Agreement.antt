@@ -3,13 +3,14 @@ use Rattle.std.specs.Prelude.{◌≡◌, ℕ, ◌+◌, ◌/◌, nat_le, Bool, tr
 use Rattle.std.specs.List.{flat_map, list_any}
 use Rattle.std.specs.FinMap.{contains_key}
 use Rattle.std.specs.FinSet.{contains}
-use Rattle.mig_base.specs.declared.TheConstants.{HIGH, PAGE_SIZE}
+use Rattle.foundation.specs.declared.TheConstants.{PAGE_SIZE}
+use Rattle.mig_base.specs.declared.TheConstants.{HIGH}
 use Rattle.mig_base.specs.declared.command.Errno.{Errno}
 use Rattle.mig_base.specs.declared.message.Message.{Message}
 use Rattle.mig_base.specs.declared.wake.Wake.{Wake}
 use Rattle.mig_base.specs.Messages.{fault_flags}
-use Rattle.mig_base.specs.Ranges.{in_range}
-use Rattle.mig_base.specs.Tests.{is_empty}
+use Rattle.foundation.specs.Ranges.{in_range}
+use Rattle.foundation.specs.Tests.{is_empty}
 use Rattle.mig_base.specs.Userfault.{Noted, is_registered}
 use Rattle.mig_model.specs.Ioctls.{Put}
 use Rattle.mig_model.specs.Space.{IsSoundSpace, Space}

@@ -1,6 +1,6 @@
 -- A log of a destination whose guest has one page: it reads the page before its bytes have arrived, waits, and continues once they are put.
 use Rattle.std.specs.Prelude.{◌≡◌, false, None, List, [], ◌∷◌}
-use Rattle.mig_base.specs.declared.TheConstants.{PAGE_SIZE}
+use Rattle.foundation.specs.declared.TheConstants.{PAGE_SIZE}
 use Rattle.mig_base.specs.declared.schedule.Step.{Step}
 use Rattle.mig_model.specs.Ioctls.{all_features, event_features}
 use Rattle.mig_model.specs.Promises.{AreAccepted}

@@ -1,6 +1,6 @@
 -- The calls that the handlers of a migration make, of a kernel: a page is put, made zeros, protected or unprotected, or its sleepers are woken.
 use Rattle.std.specs.Prelude.{◌≡◌, ℕ, Option, Ok}
-use Rattle.mig_base.specs.declared.TheConstants.{PAGE_SIZE}
+use Rattle.foundation.specs.declared.TheConstants.{PAGE_SIZE}
 use Rattle.mig_base.specs.declared.effect.Effect.{Effect}
 use Rattle.mig_base.specs.declared.schedule.Step.{Step}
 use Rattle.mig_model.specs.Migration.{World, next, outcome}

@@ -1,23 +1,27 @@
 -- The steps of a world at one of its nodes, as a log: the calls that its handler makes, the map calls of its guest, and how they end. Other
 -- steps have no line.
-use Rattle.std.specs.Prelude.{◌≡◌, ℕ, not, Bool, ◌+◌, ◌-◌, ◌/◌, ◌==◌, ◌&&◌, false, true, if◌then◌else◌, Option, Some, None, Result, Ok, List, [], ◌∷◌, ◌++◌, ◌*◌, length, map, max}
+use Rattle.std.specs.Prelude.{◌≡◌, ℕ, not, Bool, ◌+◌, ◌-◌, ◌/◌, ◌==◌, ◌&&◌, false, true, if◌then◌else◌, Option, Some, None, Result, Ok, List, [], ◌∷◌, ◌++◌, ◌*◌, drop, length, map, max}
 use Rattle.std.specs.List.{list_any}
 use Rattle.std.specs.FinMap.{FinMap}
 use Rattle.std.specs.Ordering.{nat_cmp}
 use Rattle.mig_base.specs.declared.Prot.{Prot}
 use Rattle.mig_base.specs.declared.Run.{Run}
-use Rattle.mig_base.specs.declared.TheConstants.{LOW, PAGE_SIZE}
+use Rattle.foundation.specs.declared.TheConstants.{PAGE_SIZE}
+use Rattle.mig_base.specs.declared.TheConstants.{LOW}
 use Rattle.mig_base.specs.declared.command.Command.{Command}
 use Rattle.mig_base.specs.declared.command.Place.{Place}
 use Rattle.mig_base.specs.declared.effect.Effect.{Effect}
+use Rattle.mig_base.specs.declared.command.Reply.{Reply}
+use Rattle.mig_base.specs.declared.command.Reply.TheVariants.{At}
 use Rattle.mig_base.specs.declared.message.Message.{Message}
 use Rattle.mig_base.specs.declared.refusal.Refusal.{Refusal}
 use Rattle.mig_base.specs.declared.schedule.Step.{Step}
 use Rattle.mig_base.specs.Commands.{is_access, page_of}
 use Rattle.mig_base.specs.Flat.{reply_of}
-use Rattle.mig_base.specs.Ranges.{in_range, pages_of, rounded}
+use Rattle.foundation.specs.Ranges.{in_range, pages_of, rounded}
 use Rattle.mig_base.specs.Sets.{without}
-use Rattle.mig_base.specs.Userfault.{Noted, Object, next_message}
+use Rattle.foundation.specs.Tests.{is_empty}
+use Rattle.mig_base.specs.Userfault.{Noted, Object, next_message, rest_noted}
 use Rattle.mig_model.specs.Bounds.{IsMapping}
 use Rattle.mig_model.specs.Cpus.{outstanding, processor_at}
 use Rattle.mig_model.specs.Ioctls.{all_features, event_features}
@@ -26,7 +30,7 @@ use Rattle.mig_model.specs.Handlers.{AreRunsOf}
 use Rattle.mig_model.specs.Host.{host_dropped, memory}
 use Rattle.mig_model.specs.Promises.{IsReached}
 use Rattle.mig_model.specs.Source.{is_released, is_source_idle}
-use Rattle.mig_model.specs.Space.{Space, queued_by}
+use Rattle.mig_model.specs.Space.{Space, call_messages, queued_by}
 use Rattle.uffd_log.specs.declared.call.Call.{Call}
 use Rattle.uffd_log.specs.declared.call.Call.TheVariants as call
 use Rattle.uffd_log.specs.declared.call.Descriptor.{Descriptor}
@@ -34,13 +38,13 @@ use Rattle.uffd_log.specs.declared.line.Answer.{Answer}
 use Rattle.uffd_log.specs.declared.line.Answer.TheVariants.{Done, Features, Opened, Value}
 use Rattle.kernel_rules.specs.declared.run.Made.{Made}
 use Rattle.kernel_rules.specs.declared.difference.Difference.{Difference}
-use Rattle.kernel_rules.specs.declared.difference.Difference.TheVariants.{FaultOnItsWay}
+use Rattle.kernel_rules.specs.declared.difference.Difference.TheVariants.{FaultOnItsWay, MessagesOfMremap}
 use Rattle.kernel_rules.specs.Ioctls.{has_calls, is_offer}
 use Rattle.kernel_rules.specs.Runs as runs
 use Rattle.kernel_rules.specs.Runs.{Event, IsRun, Outcome, Leads, begins, ends, lines_of}
 use Rattle.kernel_rules.specs.State.{Kernel, fresh_kernel, may_be_outside}
 use Rattle.kernel_laws.specs.Agreement.{Counterparts, is_inside, message_of, telling}
-use Rattle.kernel_laws.specs.Maps.{answer_of_reply}
+use Rattle.kernel_laws.specs.Maps.{answer_of_reply, told_by}
 
 -- a call, with how it ends
 pub record Ended : Type 0 where
@@ -51,10 +55,14 @@ pub record Ended : Type 0 where
 abbrev pub answered : Call → Answer → Ended
 answered call answer = record { call = call; out = record { answer = answer; messages = []; runs = [] } }
 
--- read(2) of the next message
-abbrev pub read_call : Descriptor → Option Noted → List Ended
-read_call on None = []
-read_call on (Some noted) = record { call = call.Read on None; out = record { answer = Value 1; messages = message_of noted.message ∷ []; runs = [] } } ∷ []
+-- read(2) of a message
+abbrev pub read_call : Descriptor → Message → Ended
+read_call on message = record { call = call.Read on None; out = record { answer = Value 1; messages = message_of message ∷ []; runs = [] } }
+
+-- of several, one after another
+abbrev pub read_calls : Descriptor → List Message → List Ended
+read_calls on [] = []
+read_calls on (message ∷ messages) = read_call on message ∷ read_calls on messages
 
 -- UFFDIO_REGISTER of the runs in turn, with a word of modes
 abbrev pub register_calls : Descriptor → (bits calls : ℕ) → List Run → List Ended
@@ -71,11 +79,13 @@ abbrev pub lines_of_calls : ℕ → List Ended → List Event
 lines_of_calls key [] = []
 lines_of_calls key (ended ∷ more) = lines_of_call key ended ++ lines_of_calls (key + 1) more
 
--- a map call under way, which has taken effect: how it ends, and how many of its messages are not read
+-- a map call under way, which has taken effect: how it ends, its events that the model has unread, and those that a kernel has. These are
+-- others for mremap alone
 pub record Open : Type 0 where
   pub made : Made
   pub out : Outcome
-  pub left : ℕ
+  pub unread : List Noted
+  pub told : List Message
 
 -- a part of a log: its lines, the number of the call after them, and the map calls that are under way then, the oldest first
 pub record Written : Type 0 where
@@ -150,28 +160,37 @@ map_call (Command.Mremap addr old_len new_len true (Some target)) = Some (call.M
 map_call (Command.DontNeed addr len) = Some (call.Madvise addr len 4)
 map_call command = None
 
+-- messages that a processor has queued
+abbrev pub noted_by : ℕ → List Message → List Noted
+noted_by cpu [] = []
+noted_by cpu (message ∷ messages) = record { message = message; cpu = cpu } ∷ noted_by cpu messages
+
 -- a map call of the guest in an address space: it begins and takes effect, and ends at once if it has queued no message
-abbrev pub map_written : (home key : ℕ) → List Open → (left : ℕ) → Answer → Call → Written
-map_written home key begun left answer call =
+abbrev pub map_written : (home key : ℕ) → List Open → (unread : List Noted) → (told : List Message) → Answer → Call → Written
+map_written home key begun unread told answer call =
     let made : Made = record { key = key; space = home; thread = 0; program = 0; call = call; last = false } in
     let out : Outcome = record { answer = answer; messages = []; runs = [] } in
-    if left == 0 then record { lines = begins made ∷ ends key out ∷ []; key = key + 1; begun = begun }
-    else record { lines = begins made ∷ []; key = key + 1; begun = begun ++ record { made = made; out = out; left = left } ∷ [] }
+    if is_empty unread then record { lines = begins made ∷ ends key out ∷ []; key = key + 1; begun = begun }
+    else record { lines = begins made ∷ []; key = key + 1; begun = begun ++ record { made = made; out = out; unread = unread; told = told } ∷ [] }
 
--- the same of a command
-abbrev pub issue_written : (home key : ℕ) → List Open → Space → Command → Option Call → Written
-issue_written home key begun space command None = calls_written key begun []
-issue_written home key begun space command (Some call) = map_written home key begun (queued_by space command) (answer_of_reply (reply_of (memory space.host) command)) call
+-- the same of a command that has this reply
+abbrev pub reply_written : (home key : ℕ) → List Open → Object → (cpu : ℕ) → Command → Call → Reply → Written
+reply_written home key begun object cpu command call reply =
+    map_written home key begun (noted_by cpu (call_messages object command reply)) (told_by object command reply) (answer_of_reply reply) call
 
--- the end of the oldest map call, whose last message was read
-abbrev pub ends_of : List Open → List Event
-ends_of [] = []
-ends_of (one ∷ begun) = if one.left == 1 then ends one.made.key one.out ∷ [] else []
+-- the same of a command of a processor
+abbrev pub issue_written : (home key : ℕ) → List Open → Space → (cpu : ℕ) → Command → Option Call → Written
+issue_written home key begun space cpu command None = calls_written key begun []
+issue_written home key begun space cpu command (Some call) = reply_written home key begun space.object cpu command call (reply_of (memory space.host) command)
 
--- the map calls once one more message of the oldest is read
-abbrev pub one_less : List Open → List Open
-one_less [] = []
-one_less (one ∷ begun) = if one.left == 1 then begun else record one { left = one.left - 1 } ∷ begun
+-- the events that the model has unread of these calls
+abbrev pub unread_of : List Open → List Noted
+unread_of [] = []
+unread_of (one ∷ begun) = one.unread ++ unread_of begun
+
+-- a space with these events unread
+abbrev pub with_unread : Space → List Noted → Space
+with_unread space events = record space { object = record space.object { events = events } }
 
 -- a space without the pages that a call is to clear
 abbrev pub without_cleared : Space → Call → Space
@@ -184,6 +203,10 @@ abbrev pub cleared : Space → List Open → Space
 cleared space [] = space
 cleared space (one ∷ begun) = cleared (without_cleared space one.made.call) begun
 
+-- the space of the model, by that of a kernel: with these map calls under way
+abbrev pub modelled : Space → List Open → Space
+modelled space begun = cleared (with_unread space (unread_of begun)) begun
+
 -- UFFDIO_WAKE of the part of a range that the model may have mapped
 abbrev pub wake_range : Descriptor → (start len : ℕ) → List Ended
 wake_range on start len = answered (call.Wake on (max start LOW) (len - (LOW - start))) Done ∷ []
@@ -195,19 +218,56 @@ wake_call on (Message.Remap from to len) = wake_range on from len
 wake_call on (Message.Remove start end) = wake_range on start (end - start)
 wake_call on (Message.Unmap start end) = wake_range on start (end - start)
 
--- once a message is read: an event is the next of the oldest map call, which returns after its last one
-abbrev pub event_written : Descriptor → (key : ℕ) → List Open → Message → Written
-event_written on key begun (Message.PageFault addr write wp tid) = calls_written key begun []
-event_written on key begun event = then_written (record { lines = ends_of begun; key = key; begun = one_less begun }) (calls_written key (one_less begun) (wake_call on event))
+-- UFFDIO_WAKE of the first of these
+abbrev pub wakes_first : Descriptor → List Message → List Ended
+wakes_first on [] = []
+wakes_first on (message ∷ messages) = wake_call on message
+
+-- whether one is left
+abbrev pub is_last : List Noted → Bool
+is_last (noted ∷ []) = true
+is_last unread = false
+
+-- the first of these
+abbrev pub first_told : List Message → List Message
+first_told [] = []
+first_told (message ∷ messages) = message ∷ []
+
+-- the end of the oldest map call, once the model has read an event of it: it returns after its last one
+abbrev pub ends_of : Open → List Event
+ends_of one = if is_last one.unread then ends one.made.key one.out ∷ [] else []
+
+-- what it has left then: a kernel's next event is read too, and with the model's last one all that it has
+abbrev pub one_less : Open → List Open
+one_less one = if is_last one.unread then [] else record one { unread = rest_noted one.unread; told = drop 1 one.told } ∷ []
+
+-- those events
+abbrev pub told_now : Open → List Message
+told_now one = if is_last one.unread then one.told else first_told one.told
+
+-- what is written once the model has read an event of the oldest map call: the reads of a kernel's, the end of the call if there is one, and
+-- UFFDIO_WAKE of the first
+abbrev pub event_written : Descriptor → (key : ℕ) → List Open → Written
+event_written on key [] = calls_written key [] []
+event_written on key (one ∷ begun) =
+    let read = told_now one in
+    let left = one_less one ++ begun in
+    let after = key + length read in
+    then_written (record { lines = lines_of_calls key (read_calls on read) ++ ends_of one; key = after; begun = left }) (calls_written after left (wakes_first on read))
+
+-- the same of a message
+abbrev pub message_written : Descriptor → (key : ℕ) → List Open → Message → Written
+message_written on key begun (Message.PageFault addr write wp tid) = calls_written key begun (read_call on (Message.PageFault addr write wp tid) ∷ [])
+message_written on key begun event = event_written on key begun
 
 -- read(2) of the next message, and what follows
 abbrev pub read_written : Descriptor → (key : ℕ) → List Open → Option Noted → Written
 read_written on key begun None = calls_written key begun []
-read_written on key begun (Some noted) = then_written (calls_written key begun (read_call on (Some noted))) (event_written on (key + 1) begun noted.message)
+read_written on key begun (Some noted) = message_written on key begun noted.message
 
 -- what a step of the destination with this outcome writes
 abbrev pub destination_writes : Descriptor → (from home key : ℕ) → List Open → World → Step → Result Effect Refusal → Written
-destination_writes on from home key begun world (Step.Issue cpu command) (Ok effect) = issue_written home key begun world.destination.guest.space command (map_call command)
+destination_writes on from home key begun world (Step.Issue cpu command) (Ok effect) = issue_written home key begun world.destination.guest.space cpu command (map_call command)
 destination_writes on from home key begun world Step.DestRead (Ok effect) = read_written on key begun (next_message world.destination.guest.space.object)
 destination_writes on from home key begun world step result = calls_written key begun (destination_calls on from world step result)
 
@@ -317,7 +377,7 @@ source_calls by world step result = []
 -- what a step of the source with this outcome writes, its guest's map calls until the destination runs
 abbrev pub source_writes : Watch → (home key : ℕ) → List Open → World → Step → Result Effect Refusal → Written
 source_writes by home key begun world (Step.Issue cpu command) (Ok effect) =
-    if world.destination.has_run then calls_written key begun [] else issue_written home key begun (unnamed world.source.guest.space) command (map_call command)
+    if world.destination.has_run then calls_written key begun [] else issue_written home key begun (unnamed world.source.guest.space) cpu command (map_call command)
 source_writes by home key begun world Step.SourceRead (Ok effect) = read_written by.on key begun (next_message (unnamed world.source.guest.space).object)
 source_writes by home key begun world step result = calls_written key begun (source_calls by world step result)
 
@@ -363,17 +423,22 @@ abbrev pub HaveNoMapCalls : List Step → Type 0
 HaveNoMapCalls [] = Unit {0}
 HaveNoMapCalls (step ∷ steps) = IsNoMapCall step × HaveNoMapCalls steps
 
--- whether a command moves no pages, and clears none past the model's address space
+-- whether a command clears no pages past the model's address space
 abbrev pub is_followed : Command → Bool
-is_followed (Command.Mremap addr old_len new_len may_move fixed) = false
 is_followed (Command.DontNeed addr len) = is_inside addr (rounded len)
 is_followed command = true
 
--- whether a command may be made in a space while a call is under way: until MADV_DONTNEED returns, none of its pages is accessed, and no
--- other map call queues a message
+-- whether a command is an mremap that is done
+abbrev pub is_remap : Command → Reply → Bool
+is_remap (Command.Mremap addr old_len new_len may_move fixed) (At target) = true
+is_remap command reply = false
+
+-- whether a command may be made in a space while a call is under way: until MADV_DONTNEED returns, none of its pages is accessed, no mremap
+-- is done, and no other map call queues a message
 abbrev pub keeps_off : Space → Command → Call → Bool
 keeps_off space command (call.Madvise addr len advice) =
-    if is_access command then not (in_range (addr / PAGE_SIZE) (pages_of len) (page_of command)) else queued_by space command == 0
+    if is_access command then not (in_range (addr / PAGE_SIZE) (pages_of len) (page_of command))
+    else queued_by space command == 0 && not (is_remap command (reply_of (memory space.host) command))
 keeps_off space command call = true
 
 -- whether it may be made with these calls under way
@@ -404,14 +469,27 @@ IsUnreleased world steps = is_released (after_steps world steps).source.phase �
 abbrev pub IsQuiet : Kernel → Type 0
 IsQuiet kernel = telling kernel ≡ fresh_kernel
 
--- whether a difference is a page fault whose thread need not wait any more when it queues it
-abbrev pub is_late : Difference → Bool
-is_late FaultOnItsWay = true
-is_late difference = false
+-- whether a line begins an mremap
+abbrev pub is_mremap : Event → Bool
+is_mremap (begins made) = is_call made.call where
+  is_call : Call → Bool
+  is_call (call.Mremap addr old_len new_len flags target) = true
+  is_call other = false
+is_mremap (ends key out) = false
+
+-- whether a log has one
+abbrev pub have_mremap : List Event → Bool
+have_mremap lines = list_any is_mremap lines
+
+-- whether a difference is a page fault whose thread need not wait any more when it queues it, or, of a log with mremap, its messages
+abbrev pub is_expected : (moves : Bool) → Difference → Bool
+is_expected moves FaultOnItsWay = true
+is_expected moves MessagesOfMremap = moves
+is_expected moves difference = false
 
 -- a run that leads to this kernel has no other difference from the model
-abbrev pub AreLate : Kernel → Type 0
-AreLate kernel = list_any (λ difference. not (is_late difference)) kernel.differs ≡ false
+abbrev pub AreExpected : (moves : Bool) → Kernel → Type 0
+AreExpected moves kernel = list_any (λ difference. not (is_expected moves difference)) kernel.differs ≡ false
 
 -- a kernel, and these map calls under way
 abbrev pub under_way : Kernel → List Open → runs.World
@@ -454,25 +532,26 @@ abbrev pub watching : Watching → Node
 watching at = source at.by at.one.object.space
 
 -- a run of this part of a log leads from a kernel whose object agrees with the model's to one whose object agrees with this space, but for
--- the pages that calls under way are to clear, and adds no other difference
+-- the pages that calls under way are to clear and the events of mremap, and adds no other difference
 pub record IsLogged (one : Counterparts) (log : Written) (space : Space) : Type 0 where
   pub steps : List runs.Step
   pub last : Counterparts
   pub whole : lines_of steps ≡ log.lines
   pub leads : Leads (at_rest one.kernel) steps (under_way last.kernel log.begun)
-  pub leaves : cleared last.space log.begun ≡ space
+  pub leaves : modelled last.space log.begun ≡ space
   pub name : last.name ≡ one.name
   pub quiet : log.begun ≡ [] → IsQuiet last.kernel
-  pub differs : AreLate one.kernel → AreLate last.kernel
+  pub differs : AreExpected (have_mremap log.lines) one.kernel → AreExpected (have_mremap log.lines) last.kernel
 
 -- the log of a node's steps has such a run, from a kernel at rest whose object agrees with the node's
 abbrev pub AreLogged : Node → Counterparts → (key : ℕ) → World → List Step → Type 0
 AreLogged node one key world steps = IsLogged one (log_of node key [] world steps) (space_after node world steps)
 
--- a run of this log, from no object on, ends with one that agrees with this space, but for those pages, and has no other difference
+-- a run of this log, from no object on, ends with one that agrees with this space, but for those pages and events, and has no other
+-- difference
 pub record HasRun (log : Written) (space : Space) : Type 0 where
   pub steps : List runs.Step
   pub last : Counterparts
   pub run : IsRun log.lines steps (under_way last.kernel log.begun)
-  pub differs : AreLate last.kernel
-  pub leaves : cleared last.space log.begun ≡ space
+  pub differs : AreExpected (have_mremap log.lines) last.kernel
+  pub leaves : modelled last.space log.begun ≡ space

@@ -1,24 +1,28 @@
--- Map calls of a guest that unmap or clear pages.
-use Rattle.std.specs.Prelude.{◌≡◌, ℕ, ◌-◌, ◌/◌, ◌==◌, ◌&&◌, not, is_some, Option, Some, None, Bool, true, false}
+-- Map calls of a guest: they unmap, clear or move pages.
+use Rattle.std.specs.Prelude.{◌≡◌, ℕ, ◌+◌, ◌-◌, ◌*◌, ◌/◌, ◌==◌, ◌&&◌, not, nat_lt, is_some, Option, Some, None, Bool, true, false, List, ◌++◌}
 use Rattle.std.specs.FinMap.{contains_key}
 use Rattle.std.specs.List.{list_any}
-use Rattle.mig_base.specs.declared.TheConstants.{PAGE_SIZE}
+use Rattle.foundation.specs.declared.TheConstants.{PAGE_SIZE}
 use Rattle.mig_base.specs.declared.Prot.{Prot}
 use Rattle.mig_base.specs.declared.command.Command.{Command}
-use Rattle.mig_base.specs.declared.command.Command.TheVariants.{Mmap}
+use Rattle.mig_base.specs.declared.command.Command.TheVariants.{Mmap, Mremap}
 use Rattle.mig_base.specs.declared.command.Errno.{Errno}
 use Rattle.mig_base.specs.declared.command.Place.{Place}
 use Rattle.mig_base.specs.declared.command.Reply.{Reply}
 use Rattle.mig_base.specs.declared.command.Reply.TheVariants.{At, Refused}
-use Rattle.mig_base.specs.Flat.{Memory, dontneed_reply, mmap_reply}
-use Rattle.mig_base.specs.Ranges.{in_range, pages_of, rounded}
+use Rattle.mig_base.specs.declared.message.Message.{Message}
+use Rattle.mig_base.specs.declared.message.Message.TheVariants.{Remap, Unmap}
+use Rattle.foundation.specs.Bits.{is_one}
+use Rattle.mig_base.specs.Flat.{Memory, dontneed_reply, mmap_reply, reply_of as flat_reply}
+use Rattle.foundation.specs.Ranges.{in_range, lesser, pages_of, rounded}
+use Rattle.mig_base.specs.Userfault.{Object, is_watched}
 use Rattle.mig_model.specs.Host.{memory}
 use Rattle.mig_model.specs.Ioctls.{has_events}
-use Rattle.mig_model.specs.Space.{called}
+use Rattle.mig_model.specs.Space.{Space, all_queued, call_messages, called, message_if, modes_after}
 use Rattle.uffd_log.specs.declared.line.Answer.{Answer}
 use Rattle.uffd_log.specs.declared.line.Answer.TheVariants.{Done, Failed, Value}
 use Rattle.kernel_rules.specs.Ioctls.{span_of}
-use Rattle.kernel_rules.specs.MapCalls.{is_placed, is_told_all, madvised, mmapped, munmapped}
+use Rattle.kernel_rules.specs.MapCalls.{is_placed, is_told_all, madvised, mmapped, mremapped, munmapped}
 use Rattle.kernel_rules.specs.Pages.{is_present}
 use Rattle.kernel_rules.specs.State.{Kernel, page_is}
 use Rattle.kernel_rules.specs.declared.calling.Span.{Span}
@@ -88,6 +92,56 @@ maps it made answer = mmapped it.one.kernel it.key it.one.object.space made.addr
 -- a MADV_DONTNEED, with the answer of the model
 abbrev pub discards : MapCall → (addr len : ℕ) → Option Kernel
 discards it addr len = madvised it.one.kernel it.key it.one.object.space addr len 4 (answer_of_reply (dontneed_reply (flat it) addr len))
+
+-- what an mremap(2) asks for: of the model a range, its new length and where it may go, of a kernel flags without MREMAP_DONTUNMAP, bit 2
+pub record Move : Type 0 where
+  pub addr : ℕ
+  pub old_len : ℕ
+  pub new_len : ℕ
+  pub may_move : Bool
+  pub fixed : Option ℕ
+  pub flags : ℕ
+  pub unmaps : is_one flags 2 ≡ false
+
+-- the command of the model
+abbrev pub mremap_of : Move → Command
+mremap_of move = Mremap move.addr move.old_len move.new_len move.may_move move.fixed
+
+-- the reply of the flat memory
+abbrev pub remap_reply : MapCall → Move → Reply
+remap_reply it move = flat_reply (flat it) (mremap_of move)
+
+-- mremap(2), with an answer
+abbrev pub moves : MapCall → Move → Answer → Option Kernel
+moves it move answer = mremapped it.one.kernel it.key it.one.object.space move.addr move.old_len move.new_len move.flags answer
+
+-- the events of a kernel's mremap: UNMAP of a replaced target, REMAP of what moved, UNMAP of a tail that was cut off, and UNMAP of the old place of
+-- what moved. The model has the tail's before REMAP, and not the last one
+abbrev pub moves_told : Object → (addr count target new_count : ℕ) → List Message
+moves_told object addr count target new_count =
+    let from = addr / PAGE_SIZE in
+    let to = target / PAGE_SIZE in
+    let kept = lesser count new_count in
+    let goes = not (to == from) && is_watched object from kept in
+    message_if (not (to == from) && is_watched object to new_count) (Unmap target (target + PAGE_SIZE * new_count))
+    ++ message_if goes (Remap addr target (PAGE_SIZE * kept))
+    ++ message_if (nat_lt new_count count && is_watched object (from + new_count) (count - new_count)) (Unmap (addr + PAGE_SIZE * new_count) (addr + PAGE_SIZE * count))
+    ++ message_if goes (Unmap addr (addr + PAGE_SIZE * kept))
+
+-- the events of a kernel's map call with this reply: the model's, but for those of mremap
+abbrev pub told_by : Object → Command → Reply → List Message
+told_by object (Mremap addr old_len new_len may_move fixed) (At target) = moves_told object addr (pages_of old_len) target (pages_of new_len)
+told_by object command reply = call_messages object command reply
+
+-- the space after a map call, with a kernel's events of it for the model's
+abbrev pub called_told : Space → ℕ → Command → Space
+called_told space cpu command =
+    let reply = flat_reply (memory space.host) command in
+    record (called space cpu command) { object = all_queued (modes_after space.object command reply) (told_by space.object command reply) cpu }
+
+-- the rules may take an mremap, the model makes it, and both agree afterwards, but for its events
+abbrev pub FollowTold : MapCall → ℕ → Move → Option Kernel → Type 0
+FollowTold it cpu move rule = Takes rule (called_told it.one.space cpu (mremap_of move)) it.one.name
 
 -- no page of a range is known to be present: the model has a MADV_DONTNEED clear its pages at once, a kernel once the REMOVE is read
 abbrev pub AreUnseen : Counterparts → (first count : ℕ) → Type 0

@@ -7,7 +7,7 @@
 #![tactic(auto)]
 
 ghost use Rattle.std.specs.Prelude.{◌≡◌, ◌+◌, ◌*◌, ℕ, true, false, Option, Some, None, List, [], ◌∷◌, length};
-ghost use Rattle.mig_base.specs.declared.TheConstants.{PAGE_SIZE};
+ghost use Rattle.foundation.specs.declared.TheConstants.{PAGE_SIZE};
 ghost use Rattle.mig_base.specs.declared.command.Command.{Command};
 ghost use Rattle.mig_base.specs.declared.command.Errno.{Errno};
 ghost use Rattle.mig_base.specs.declared.command.Reply.{Reply};
@@ -28,7 +28,7 @@ ghost use Rattle.kernel_laws.specs.Agreement.{Agree, AreMapped, AreUnmapsAndRema
 ghost use Rattle.kernel_laws.specs.Example.{IsOfDestination, its_calls};
 ghost use Rattle.kernel_laws.specs.Handlers.{DestinationStep, SourceStep, copies_page, destination_after, protects_pages, source_after, wakes_page, zeroes_page};
 ghost use Rattle.kernel_laws.specs.Logs.{AreFollowed, AreLogged, Arrival, Beginning, HasRun, IsUnreleased, Running, Watching, arrived, arriving, calls_written, first_calls, running, source, source_left, source_log, space_left, watching, whole_log};
-ghost use Rattle.kernel_laws.specs.Maps.{Follow, IsPlaced, MapCall, Mapping, MayClear, MayDiscard, command_of, discards, failed, maps, reply_of, unmaps};
+ghost use Rattle.kernel_laws.specs.Maps.{Follow, FollowTold, IsPlaced, MapCall, Mapping, MayClear, MayDiscard, Move, command_of, discards, failed, maps, moves, mremap_of, remap_reply, reply_of, unmaps};
 ghost use Rattle.kernel_laws.specs.Reading.{EventNext, FaultNext, NoneNext, Trying, fails_to_read, makes, reads_event, reads_fault};
 
 /// A kernel may answer each ioctl as the model does, whether it is refused, or done in part or whole. The range ends in the model's address
@@ -95,10 +95,10 @@ pub fn a_thread_waits_as_a_processor()
 {}
 
 /// A kernel may make a guest's munmap(2), mmap(2) and MADV_DONTNEED as the model does, without a difference, and both agree afterwards. The range
-/// is no longer registered, or cleared, and if any page of it was registered an UNMAP or a REMOVE of it waits to be read. A refused call
-/// changes nothing, but for MADV_DONTNEED over a hole; a call returns once all that it told is read. Its number is new, and a fixed mapping is
-/// where it was to be. No page that MADV_DONTNEED clears is known to be present: a kernel clears it only when the REMOVE is read. mremap(2) is
-/// left out.
+/// is no longer registered, or cleared, and if any page of it was registered an UNMAP or a REMOVE of it waits to be read. So may it make an
+/// mremap(2), which moves pages with their registrations; both agree but for its events, of which a kernel has its own. A refused
+/// call changes nothing, but for MADV_DONTNEED over a hole; a call returns once all that it told is read. Its number is new, and a fixed mapping
+/// is where it was to be. No page that MADV_DONTNEED clears is known to be present: a kernel clears it only when the REMOVE is read.
 pub fn a_kernel_may_map_so()
     ensures munmap { (it : MapCall) (cpu addr len : ℕ) → munmap_reply addr len ≡ Reply.Done →
         Follow it cpu (Command.Munmap addr len) (unmaps it addr len Answer.Done) }
@@ -111,6 +111,12 @@ pub fn a_kernel_may_map_so()
     ensures mmap_refused { (it : MapCall) (made : Mapping) (cpu : ℕ) (errno : Errno) →
         reply_of it made ≡ Reply.Refused errno →
         Follow it cpu (command_of made) (maps it made (failed errno)) }
+    ensures mremap { (it : MapCall) (move : Move) (cpu target : ℕ) →
+        remap_reply it move ≡ Reply.At target →
+        FollowTold it cpu move (moves it move (Answer.Value target)) }
+    ensures mremap_refused { (it : MapCall) (move : Move) (cpu : ℕ) (errno : Errno) →
+        remap_reply it move ≡ Reply.Refused errno →
+        Follow it cpu (mremap_of move) (moves it move (failed errno)) }
     ensures dontneed { (it : MapCall) (cpu addr len : ℕ) → MayDiscard it addr len →
         Follow it cpu (Command.DontNeed addr len) (discards it addr len) }
     ensures clears { (one : Counterparts) (key : ℕ) → MayClear one key →
@@ -166,11 +172,12 @@ pub fn a_kernel_follows_the_source()
 
 /// The steps of a world whose destination runs, as a log of its handler's calls and of its guest's map calls: the rules of a kernel have a run
 /// of it, from each kernel at rest whose object agrees, to one that agrees with the destination after the steps. A thread sees its page when its
-/// processor sleeps with a message, and queues its fault when that is read. That its page may be there by then, or gone, is the run's only
-/// difference from the model. A map call returns once its message is read: munmap(2), mmap(2) and MADV_DONTNEED have one at most. The pages of
-/// MADV_DONTNEED stay in the kernel until its REMOVE is read; until then nobody accesses them, and no other map call has a message. No step
-/// moves pages, and the buffer of UFFDIO_COPY is where any process may have memory. So the whole log, which begins where the destination has
-/// taken the Package, opens its object and registers the mapped pages, is one that a kernel may have written.
+/// processor sleeps with a message, and queues its fault when that is read. That its page may be there by then, or gone, is a difference of the
+/// run from the model; the messages of mremap(2) are the only other one. Of these the log has a kernel's, in its order: one is read where the
+/// model reads one, and all that are left with the model's last. A map call returns once its messages are read. The pages of MADV_DONTNEED stay
+/// in the kernel until its REMOVE is read; until then nobody accesses them, no mremap is done, and no other map call has a message. The buffer
+/// of UFFDIO_COPY is where any process may have memory. So the whole log, which begins where the destination has taken the Package, opens its
+/// object and registers the mapped pages, is one that a kernel may have written.
 pub fn a_destination_is_logged()
     ensures steps { (at : Running) (key : ℕ) (steps : List Step) →
         AreFollowed (running at) key [] at.world steps →
@@ -190,8 +197,8 @@ pub fn a_destination_fetches_a_page()
 /// So is a source, with its guest's map calls until the destination runs; the objects agree until its memory is released. Start and Round
 /// register every mapped page in both modes, and a page is protected before it is sent. Its log has no thread numbers: the model's unread fault
 /// stays when its processor is woken, and that one may sleep at another page by then, where a thread of a kernel has one fault at a time. A fault
-/// may be read once its page is there or gone, or is no longer protected: this is the run's only difference from the model. After the release
-/// nothing is written: the log has a run still, in which the object is not closed.
+/// may be read once its page is there or gone, or is no longer protected: this and the messages of mremap(2) are the run's only differences from
+/// the model. After the release nothing is written: the log has a run still, in which the object is not closed.
 pub fn a_source_is_logged()
     ensures steps { (at : Watching) (key : ℕ) (steps : List Step) →
         AreFollowed (watching at) key [] at.world steps → IsUnreleased at.world steps →

@@ -6,7 +6,7 @@ use Rattle.std.proofs.lemmas.List.{append-nil, map-append}
 use Rattle.std.proofs.Math.Numerals.{add-one}
 use Rattle.std.proofs.Math.Seq.{take-length}
 use Rattle.std.proofs.lemmas.List.Elements.{filter_map-append}
-use Rattle.mig_base.proofs.TestLemmas.{and_first, and_second}
+use Rattle.foundation.proofs.TestLemmas.{and_first, and_second}
 use Rattle.uffd_log.specs.declared.line.Answer.{Answer}
 use Rattle.uffd_log.specs.declared.line.Answer.TheVariants.{Interrupted}
 use Rattle.kernel_rules.specs.declared.certify.BegunCall.{BegunCall}

@@ -1,9 +1,9 @@
 -- The pages of a range that moves, one after another.
 use Rattle.std.proofs.Common.{◌≡◌, ◌∙◌, ℕ, ◌+◌, Bool, true, List, [], ◌++◌, Option, Some, refl, sym, ap}
 use Rattle.std.specs.Prelude.{◌==◌, ◌/◌}
-use Rattle.mig_base.specs.Bits.{is_one}
-use Rattle.mig_base.specs.Ranges.{pages_of}
-use Rattle.mig_base.specs.declared.TheConstants.{PAGE_SIZE}
+use Rattle.foundation.specs.Bits.{is_one}
+use Rattle.foundation.specs.Ranges.{pages_of}
+use Rattle.foundation.specs.declared.TheConstants.{PAGE_SIZE}
 use Rattle.uffd_log.specs.declared.line.Answer.{Answer}
 use Rattle.uffd_log.specs.declared.line.Answer.TheVariants.{Value}
 use Rattle.std.proofs.Math.Numerals.{add-one}

@@ -6,9 +6,9 @@ use Rattle.std.proofs.lemmas.Bool.Decides.{nat_tests}
 use Rattle.std.proofs.lemmas.Bool.{false≢true}
 use Rattle.std.proofs.lemmas.Map.Keys.{le_from_not_gt}
 use Rattle.std.specs.Ordering.{is_eq, is_gt, is_lt, nat_cmp}
-use Rattle.mig_base.specs.Ranges.{in_range}
-use Rattle.mig_base.proofs.TestLemmas.{below_or_at}
-use Rattle.mig_base.proofs.RangeLemmas.{in_range-true, in_range-false_below, in_range-false_above, in_range_tells}
+use Rattle.foundation.specs.Ranges.{in_range}
+use Rattle.foundation.proofs.TestLemmas.{below_or_at}
+use Rattle.foundation.proofs.RangeLemmas.{in_range-true, in_range-false_below, in_range-false_above, in_range_tells}
 use Rattle.kernel_rules.specs.Changes.{changed, range_changed}
 use Rattle.kernel_rules.specs.Tables.{run_at, range_set}
 use Rattle.kernel_rules.specs.declared.change.Change.{Change}

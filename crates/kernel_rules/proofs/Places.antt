@@ -3,7 +3,7 @@ use Rattle.std.proofs.Common.{◌≡◌, ◌∙◌, ℕ, Bool, Bor, true, false,
 use Rattle.std.proofs.lemmas.Option.{slice_get-map, slice_get_past, slice_get_read}
 use Rattle.std.specs.Slice.{IsItemAt}
 use Rattle.std.specs.Prelude.{◌==◌, ◌&&◌, is_some, map, option_map, slice_get, IfOk}
-use Rattle.mig_base.specs.declared.NoMemory.{NoMemory}
+use Rattle.foundation.specs.declared.NoMemory.{NoMemory}
 use Rattle.uffd_log.specs.declared.line.Answer.{Answer}
 use Rattle.kernel_rules.specs.declared.certify.BegunCall.{BegunCall}
 use Rattle.kernel_rules.specs.declared.certify.WorldTable.{WorldTable}

@@ -2,8 +2,8 @@
 use Rattle.std.proofs.Common.{◌≡◌, ◌∙◌, ℕ, Bool, true, false, List, [], ◌∷◌, ◌++◌, Option, Some, None, refl, ap}
 use Rattle.std.proofs.lemmas.Bool.{eq-eqb, ne_eqb}
 use Rattle.std.specs.Prelude.{◌/◌, ◌==◌, ◌&&◌, is_some, not, filter, filter_map}
-use Rattle.mig_base.specs.declared.TheConstants.{PAGE_SIZE}
-use Rattle.mig_base.specs.Bits.{is_one}
+use Rattle.foundation.specs.declared.TheConstants.{PAGE_SIZE}
+use Rattle.foundation.specs.Bits.{is_one}
 use Rattle.uffd_log.specs.declared.call.Descriptor.{Descriptor}
 use Rattle.uffd_log.specs.declared.line.Answer.{Answer}
 use Rattle.uffd_log.specs.declared.line.Answer.TheVariants.{Opened, Done}

@@ -1,6 +1,6 @@
 -- The changes of a page as values, which a table can keep: each is one of the functions of Pages.antt.
 use Rattle.std.specs.Prelude.{ℕ, if◌then◌else◌, Option, Some, None}
-use Rattle.mig_base.specs.Ranges.{in_range}
+use Rattle.foundation.specs.Ranges.{in_range}
 use Rattle.kernel_rules.specs.Pages.{registered_page, without_object, put_page, protected_page, perhaps_protected, settled, shown, cleared_page, freed_page, found_there, perhaps_cleared, perhaps_put, poisoned_page, populated_page}
 use Rattle.kernel_rules.specs.declared.change.Change.{Change}
 use Rattle.kernel_rules.specs.declared.change.Change.TheVariants as change

@@ -1,7 +1,7 @@
 -- What threads do that no line of a log shows: they find a page missing or write-protected, queue a fault, sleep, and leave it.
 use Rattle.std.specs.Prelude.{ℕ, ◌==◌, ◌&&◌, ◌||◌, not, nat_lt, Bool, true, false, if◌then◌else◌, Option, Some, None, is_some, List, [], ◌∷◌, ◌++◌, filter, filter_map}
 use Rattle.std.specs.List.{list_any}
-use Rattle.mig_base.specs.Ranges.{in_range}
+use Rattle.foundation.specs.Ranges.{in_range}
 use Rattle.kernel_rules.specs.declared.fault.Fault.{Fault}
 use Rattle.kernel_rules.specs.Pages.{is_missing, is_of_minor, is_poisoned, may_be_missing, is_of_protection, shown}
 use Rattle.kernel_rules.specs.declared.difference.Difference.TheVariants.{FaultOfEachThread, FaultTakenAway, FaultOnItsWay, LeftByASignal}

@@ -2,11 +2,11 @@
 -- A rule has the kernel, the call and its answer; None says that no kernel answers so.
 use Rattle.std.specs.Prelude.{ℕ, zero, suc, ◌+◌, ◌-◌, ◌/◌, ◌%◌, ◌^◌, ◌==◌, ◌&&◌, ◌||◌, not, nat_le, nat_lt, Bool, true, false, if◌then◌else◌, Option, Some, None, is_some, List, [], ◌∷◌, ◌++◌, filter}
 use Rattle.std.specs.List.{list_any}
-use Rattle.mig_base.specs.declared.TheConstants.{PAGE_SIZE}
-use Rattle.mig_base.specs.Bits.{is_one}
-use Rattle.mig_base.specs.Ranges.{in_range}
-use Rattle.mig_base.specs.Tests.{is_empty}
-use Rattle.mig_base.specs.Userfault.{Mode}
+use Rattle.foundation.specs.declared.TheConstants.{PAGE_SIZE}
+use Rattle.foundation.specs.Bits.{is_one}
+use Rattle.foundation.specs.Ranges.{in_range}
+use Rattle.foundation.specs.Tests.{is_empty}
+use Rattle.foundation.specs.Modes.{Mode}
 use Rattle.uffd_log.specs.declared.line.Answer.{Answer}
 use Rattle.uffd_log.specs.declared.line.Answer.TheVariants.{Opened, Done, Value, Features, Failed}
 use Rattle.uffd_log.specs.declared.errno.Errno.{Errno}

@@ -2,10 +2,10 @@
 -- madvise(2); userfaultfd(2), UFFD_EVENT_UNMAP, UFFD_EVENT_REMAP and UFFD_EVENT_REMOVE. Whether such a call succeeds is not judged.
 use Rattle.std.specs.Prelude.{ℕ, zero, suc, ◌+◌, ◌-◌, ◌*◌, ◌/◌, ◌^◌, ◌==◌, ◌&&◌, ◌||◌, not, nat_lt, Bool, true, false, if◌then◌else◌, Option, Some, None, is_some, List, [], ◌∷◌, ◌++◌, filter, length, max, min}
 use Rattle.std.specs.List.{list_any}
-use Rattle.mig_base.specs.declared.TheConstants.{PAGE_SIZE}
-use Rattle.mig_base.specs.Bits.{is_one}
-use Rattle.mig_base.specs.Ranges.{pages_of}
-use Rattle.mig_base.specs.Tests.{is_empty}
+use Rattle.foundation.specs.declared.TheConstants.{PAGE_SIZE}
+use Rattle.foundation.specs.Bits.{is_one}
+use Rattle.foundation.specs.Ranges.{pages_of}
+use Rattle.foundation.specs.Tests.{is_empty}
 use Rattle.uffd_log.specs.declared.line.Answer.{Answer}
 use Rattle.uffd_log.specs.declared.line.Answer.TheVariants.{Done, Value, Failed}
 use Rattle.uffd_log.specs.declared.errno.Errno.{Errno}
@@ -177,10 +177,10 @@ moved_pages kernel space from count to new_count stay =
     (pages_set (forgotten (forgotten kernel space from count) space to new_count) space (leavings kernel space from (if stay then count else 0)))
     space (arrivals kernel space from count to new_count)
 
--- the REMAP of a range
+-- the REMAP of a range, if a page that moves is watched: a tail that is cut off does not move
 abbrev pub remap_told : Kernel → ℕ → ℕ → ℕ → ℕ → ℕ → ℕ → Kernel
 remap_told kernel key space from count to new_count =
-    with_events kernel key (Remap (from * PAGE_SIZE) (to * PAGE_SIZE) (min count new_count * PAGE_SIZE)) (told_in kernel 2 space from (from + count))
+    with_events kernel key (Remap (from * PAGE_SIZE) (to * PAGE_SIZE) (min count new_count * PAGE_SIZE)) (told_in kernel 2 space from (from + min count new_count))
 
 -- the UNMAP of the pages after the first `new_count`
 abbrev pub tail_told : Kernel → ℕ → ℕ → ℕ → ℕ → ℕ → Kernel

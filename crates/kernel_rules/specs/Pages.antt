@@ -1,7 +1,7 @@
 -- A registered page, and what becomes of it.
 use Rattle.std.specs.Prelude.{ℕ, ◌==◌, ◌&&◌, ◌||◌, not, Bool, true, false, if◌then◌else◌, Option, Some, None}
-use Rattle.mig_base.specs.Bits.{is_one}
-use Rattle.mig_base.specs.Userfault.{Mode}
+use Rattle.foundation.specs.Bits.{is_one}
+use Rattle.foundation.specs.Modes.{Mode}
 use Rattle.kernel_rules.specs.declared.known.Page.{Page}
 use Rattle.kernel_rules.specs.declared.known.Presence.{Presence}
 use Rattle.kernel_rules.specs.declared.known.Presence.TheVariants.{Unknown, Missing, Present, Poisoned}

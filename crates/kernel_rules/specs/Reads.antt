@@ -1,8 +1,8 @@
 -- read(2) and poll(2) of a userfault object. userfaultfd(2).
 use Rattle.std.specs.Prelude.{ℕ, ◌/◌, ◌%◌, ◌==◌, ◌&&◌, ◌||◌, not, nat_le, nat_lt, Bool, true, false, if◌then◌else◌, Option, Some, None, is_some, List, [], ◌∷◌, ◌++◌, count_by, filter, length}
 use Rattle.std.specs.List.{list_any}
-use Rattle.mig_base.specs.declared.TheConstants.{PAGE_SIZE}
-use Rattle.mig_base.specs.Tests.{is_empty}
+use Rattle.foundation.specs.declared.TheConstants.{PAGE_SIZE}
+use Rattle.foundation.specs.Tests.{is_empty}
 use Rattle.uffd_log.specs.declared.line.Answer.{Answer}
 use Rattle.uffd_log.specs.declared.line.Answer.TheVariants.{Value, Failed}
 use Rattle.uffd_log.specs.declared.errno.Errno.{Errno}

@@ -9,7 +9,7 @@ use Rattle.uffd_log.specs.declared.line.Answer.{Answer}
 use Rattle.uffd_log.specs.declared.line.Answer.TheVariants.{Done, Failed, Interrupted}
 use Rattle.uffd_log.specs.declared.errno.Errno.{Errno}
 use Rattle.uffd_log.specs.declared.errno.Errno.TheVariants.{Esrch, Eintr, Eagain, Enomem, Efault, Ebusy, Einval, Other}
-use Rattle.mig_base.specs.Tests.{is_empty}
+use Rattle.foundation.specs.Tests.{is_empty}
 use Rattle.kernel_rules.specs.declared.difference.Difference.{Difference}
 use Rattle.kernel_rules.specs.declared.object.Object.{Object}
 use Rattle.kernel_rules.specs.declared.object.Registration.{Registration}

@@ -1,10 +1,10 @@
 -- What a kernel has: userfault objects, the pages that are registered with them, the threads that sleep, and the map calls under way.
 -- Address spaces, objects and threads are numbers; a page is the number of its first byte divided by the page size, without a bound.
 use Rattle.std.specs.Prelude.{ℕ, ◌+◌, ◌%◌, ◌^◌, ◌==◌, ◌&&◌, ◌||◌, not, nat_le, nat_lt, Bool, true, false, if◌then◌else◌, Option, Some, None, is_some, List, [], ◌∷◌, ◌++◌}
-use Rattle.mig_base.specs.declared.TheConstants.{PAGE_SIZE}
-use Rattle.mig_base.specs.Bits.{is_one}
-use Rattle.mig_base.specs.Ranges.{in_range, none_below}
-use Rattle.mig_base.specs.Tests.{is_every}
+use Rattle.foundation.specs.declared.TheConstants.{PAGE_SIZE}
+use Rattle.foundation.specs.Bits.{is_one}
+use Rattle.foundation.specs.Ranges.{in_range, none_below}
+use Rattle.foundation.specs.Tests.{is_every}
 use Rattle.kernel_rules.specs.Changes.{page_with}
 use Rattle.kernel_rules.specs.declared.calling.Protecting.{Protecting}
 use Rattle.kernel_rules.specs.declared.calling.Span.{Span}

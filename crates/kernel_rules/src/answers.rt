@@ -9,7 +9,7 @@ ghost use Rattle.kernel_rules.specs.State.{allowed, Kernel};
 
 use crate::arguments::is_enabled;
 use crate::object::Object;
-use mig_base::flags::has_bit;
+use foundation::has_bit;
 use uffd_log::{Answer, Errno};
 
 /// Whether userfaultfd(2) may fail so.

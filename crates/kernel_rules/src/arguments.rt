@@ -1,14 +1,13 @@
 //! What the arguments of a call say by themselves.
 
 ghost use Rattle.std.specs.Prelude.{◌≡◌, ◌<◌, ◌+◌, ◌^◌, ◌&&◌, nat_lt, not};
-ghost use Rattle.mig_base.specs.Bits.{is_one};
+ghost use Rattle.foundation.specs.Bits.{is_one};
 ghost use Rattle.kernel_rules.specs.State.{asked_for, is_enabled, is_range, is_within, may_be_outside};
 ghost use Rattle.kernel_rules.specs.Ioctls.{bytes_or_none, is_mode, is_part, is_right, presence_of};
 
 use crate::known::Presence;
 use crate::object::Object;
-use mig_base::PAGE_SIZE;
-use mig_base::flags::has_bit;
+use foundation::{PAGE_SIZE, has_bit};
 
 /// The bytes that the user's half of an address space has at the most.
 pub const MOST_BYTES: u64 = 1 << 56;

@@ -1,4 +1,4 @@
-//! What map calls under way have to tell objects, and have still to do.
+//! What map calls under way must tell objects, and have still to do.
 
 use uffd_log::Message;
 
@@ -18,7 +18,7 @@ pub struct Untold {
     pub message: Message,
 }
 
-/// Pages of a space that a call has to announce or to clear: those from `first` on below `end`. `frees` says that the kernel may take them
+/// Pages of a space that a call must announce or clear: those from `first` on below `end`. `frees` says that the kernel may take them
 /// back then, MADV_FREE, in place of clearing them.
 #[derive(Clone, Copy)]
 pub struct Span {

@@ -10,7 +10,7 @@ ghost use Rattle.kernel_rules.specs.Worlds.{event_seen, if_made, left_of, outcom
 
 use crate::kernel_table::KernelTable;
 use crate::run::{Ending, Entry, Made, Move};
-use mig_base::NoMemory;
+use foundation::NoMemory;
 use std::alloc::Global;
 use uffd_log::Answer;
 

@@ -14,7 +14,7 @@ use crate::fault::{Reach, note_all};
 use crate::kernel_table::KernelTable;
 use crate::object::{Object, Registration};
 use crate::page_test::PageTest;
-use mig_base::NoMemory;
+use foundation::NoMemory;
 use uffd_log::Answer;
 
 /// One more than the greatest page that an address of 64 bits has.

@@ -7,8 +7,7 @@ ghost use Rattle.kernel_rules.specs.Faults.{are_flags, is_seen, stops_at, fault_
 ghost use Rattle.kernel_rules.specs.Reads.{first_unread};
 
 use crate::known::{Page, Phase, Presence};
-use mig_base::NoMemory;
-use mig_base::flags::has_bit;
+use foundation::{NoMemory, has_bit};
 
 /// A thread that found a page missing or write-protected, until it is woken or leaves.
 #[derive(Clone, Copy)]

@@ -6,7 +6,7 @@ ghost use Rattle.kernel_rules.specs.Ioctls.{moving, poisoning, putting};
 
 use crate::change::Change;
 use crate::page_test::PageTest;
-use mig_base::flags::has_bit;
+use foundation::has_bit;
 
 /// What a call asks of the pages that it fills, and what it does to them.
 #[derive(Clone, Copy)]

@@ -2,7 +2,7 @@
 //! allows the answer, a table is not to be used.
 
 ghost use Rattle.std.specs.Prelude.{◌≡◌, ◌==◌, ◌≤◌, ◌<◌, ◌+◌, ◌/◌, ◌^◌, ◌&&◌, ◌||◌, ◌++◌, ◌∷◌, [], not, IfOk, OnOk};
-ghost use Rattle.mig_base.specs.declared.TheConstants.{PAGE_SIZE};
+ghost use Rattle.foundation.specs.declared.TheConstants.{PAGE_SIZE};
 ghost use Rattle.kernel_rules.specs.State.{allowed, each_page, some_page};
 ghost use Rattle.kernel_rules.specs.Ioctls as ioctl;
 ghost use Rattle.kernel_rules.specs.Ioctls.{is_right};
@@ -18,8 +18,7 @@ use crate::filling::{Filling, putting};
 use crate::kernel_table::KernelTable;
 use crate::object::Object;
 use crate::page_test::{PageTest, may_be_there};
-use mig_base::flags::has_bit;
-use mig_base::{NoMemory, PAGE_SIZE};
+use foundation::{NoMemory, PAGE_SIZE, has_bit};
 use uffd_log::{Answer, Errno};
 
 /// Whether an answer is EINVAL.

@@ -2,8 +2,8 @@
 //! After `NoMemory` a table is not to be used.
 
 ghost use Rattle.std.specs.Prelude.{◌≡◌, ◌==◌, ◌≤◌, ◌+◌, ◌/◌, ◌^◌, ◌&&◌, ◌++◌, ◌∷◌, [], if◌then◌else◌, not, Some, IfOk, OnOk};
-ghost use Rattle.mig_base.specs.declared.TheConstants.{PAGE_SIZE};
-ghost use Rattle.mig_base.specs.Bits.{is_one};
+ghost use Rattle.foundation.specs.declared.TheConstants.{PAGE_SIZE};
+ghost use Rattle.foundation.specs.Bits.{is_one};
 ghost use Rattle.kernel_rules.specs.State.{allowed, some_page};
 ghost use Rattle.kernel_rules.specs.Ioctls.{has_calls, is_mode, is_owed, may_shake, opened, registered, shaken, unregistered, unregistered_in, waked, with_handshake, with_owed, with_range, with_registered};
 ghost use Rattle.kernel_rules.specs.State.{asked_for, is_enabled, is_range, noted_if, page_is};
@@ -20,8 +20,7 @@ use crate::kernel_table::KernelTable;
 use crate::known::{Page, Presence};
 use crate::object::Object;
 use crate::page_test::PageTest;
-use mig_base::flags::has_bit;
-use mig_base::{NoMemory, PAGE_SIZE};
+use foundation::{NoMemory, PAGE_SIZE, has_bit};
 use uffd_log::{Answer, Errno};
 
 /// Whether a page is owed where its registration with an object ends.

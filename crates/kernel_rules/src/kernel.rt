@@ -9,7 +9,7 @@ use crate::kernel_table::KernelTable;
 use crate::known::Page;
 use crate::object::{Object, Registration};
 use crate::run::{Ending, Made};
-use mig_base::NoMemory;
+use foundation::NoMemory;
 use std::alloc::Global;
 use std::marker::Model;
 use uffd_log::Message;

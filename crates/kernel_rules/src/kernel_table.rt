@@ -23,8 +23,8 @@ use crate::known::{Page, Phase};
 use crate::object::{Object, Registration};
 use crate::page_table::PageTable;
 use crate::page_test::PageTest;
+use foundation::NoMemory;
 use indexmap::IndexMap;
-use mig_base::NoMemory;
 use std::alloc::Global;
 
 /// What is known of a kernel.

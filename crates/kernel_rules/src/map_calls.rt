@@ -2,7 +2,7 @@
 //! where no rule allows the answer, a table is not to be used.
 
 ghost use Rattle.std.specs.Prelude.{◌≡◌, ◌==◌, ◌<◌, ◌≤◌, ◌+◌, ◌^◌, ◌++◌, ◌∷◌, [], IfOk, OnOk};
-ghost use Rattle.mig_base.specs.Ranges.{pages_of};
+ghost use Rattle.foundation.specs.Ranges.{pages_of};
 ghost use Rattle.kernel_rules.specs.State.{allowed};
 ghost use Rattle.kernel_rules.specs.MapCalls as maps;
 ghost use Rattle.kernel_rules.specs.Held.{kernel_of, AreTables};
@@ -14,7 +14,7 @@ use crate::calling::Span;
 use crate::change::Change;
 use crate::kernel_table::KernelTable;
 use crate::page_test::PageTest;
-use mig_base::{NoMemory, PAGE_SIZE};
+use foundation::{NoMemory, PAGE_SIZE};
 use uffd_log::{Answer, Errno};
 
 /// One more than the greatest page that an address of 64 bits has.

@@ -1,7 +1,7 @@
 //! UFFDIO_MOVE, by the rules of `specs/Ioctls.antt`. After `NoMemory`, or where no rule allows the answer, a table is not to be used.
 
 ghost use Rattle.std.specs.Prelude.{◌≡◌, ◌<◌, ◌≤◌, ◌+◌, ◌/◌, ◌^◌, IfOk, OnOk};
-ghost use Rattle.mig_base.specs.declared.TheConstants.{PAGE_SIZE};
+ghost use Rattle.foundation.specs.declared.TheConstants.{PAGE_SIZE};
 ghost use Rattle.kernel_rules.specs.State.{allowed};
 ghost use Rattle.kernel_rules.specs.Ioctls as ioctl;
 ghost use Rattle.kernel_rules.specs.Held.{kernel_of, AreTables};
@@ -12,8 +12,7 @@ use crate::filling::moving;
 use crate::kernel_table::KernelTable;
 use crate::object::Object;
 use crate::page_test::PageTest;
-use mig_base::flags::has_bit;
-use mig_base::{NoMemory, PAGE_SIZE};
+use foundation::{NoMemory, PAGE_SIZE, has_bit};
 use uffd_log::{Answer, Errno};
 
 /// What is moved, in bytes or in pages: where to, where from, and how much; and the word of modes.

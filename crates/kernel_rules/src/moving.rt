@@ -12,8 +12,7 @@ use crate::difference::Difference;
 use crate::kernel_table::KernelTable;
 use crate::known::{Page, Presence, known_as};
 use crate::map_calls::{is_mappable, pages_of};
-use mig_base::flags::has_bit;
-use mig_base::{NoMemory, PAGE_SIZE};
+use foundation::{NoMemory, PAGE_SIZE, has_bit};
 use uffd_log::{Answer, Descriptor, Message};
 
 /// One more than the greatest page that an address of 64 bits has.
@@ -210,11 +209,12 @@ impl KernelTable {
         ensures told { OnOk result (kernel_of self.new ≡
             maps.remap_told (kernel_of self.old) key space from count to new_count) }
     {
-        let names = self.told_in(2, space, from, from + count)?;
+        let moved = count.min(new_count);
+        let names = self.told_in(2, space, from, from + moved)?;
         let message = Message::Remap {
             from: from * PAGE_SIZE,
             to: to * PAGE_SIZE,
-            len: count.min(new_count) * PAGE_SIZE,
+            len: moved * PAGE_SIZE,
         };
         self.add_events(key, message, &names)
     }

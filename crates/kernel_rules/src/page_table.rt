@@ -9,7 +9,7 @@ ghost use Rattle.kernel_rules.specs.Tables.{pages_of, range_set, IsTable};
 
 use crate::change::Change;
 use crate::known::Page;
-use mig_base::NoMemory;
+use foundation::NoMemory;
 use std::alloc::Global;
 use std::collections::BTreeMap;
 use std::ops::Bound;

@@ -15,7 +15,7 @@ pub enum PageTest {
     Of(u64),
     /// It is registered with another object.
     OfAnother(u64),
-    /// It may be put; `protect` says whether it has to be registered for write-protect faults.
+    /// It may be put; `protect` says whether it must be registered for write-protect faults.
     MayBePut { protect: bool },
     /// It is registered for write-protect faults.
     Protected,

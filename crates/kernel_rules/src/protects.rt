@@ -1,8 +1,8 @@
 //! UFFDIO_WRITEPROTECT, by the rules of `specs/Ioctls.antt`. After `NoMemory`, or where no rule allows the answer, a table is not to be used.
 
 ghost use Rattle.std.specs.Prelude.{◌≡◌, ◌==◌, ◌≤◌, ◌+◌, ◌/◌, ◌^◌, ◌&&◌, ◌||◌, ◌++◌, ◌∷◌, [], filter, not, IfOk, OnOk};
-ghost use Rattle.mig_base.specs.declared.TheConstants.{PAGE_SIZE};
-ghost use Rattle.mig_base.specs.Ranges.{in_range};
+ghost use Rattle.foundation.specs.declared.TheConstants.{PAGE_SIZE};
+ghost use Rattle.foundation.specs.Ranges.{in_range};
 ghost use Rattle.kernel_rules.specs.State.{allowed, page_is};
 ghost use Rattle.kernel_rules.specs.Ioctls as ioctl;
 ghost use Rattle.kernel_rules.specs.Ioctls.{is_right, protects_missing};
@@ -17,8 +17,7 @@ use crate::kernel_table::KernelTable;
 use crate::known::{Page, Presence};
 use crate::object::Object;
 use crate::page_test::PageTest;
-use mig_base::flags::has_bit;
-use mig_base::{NoMemory, PAGE_SIZE};
+use foundation::{NoMemory, PAGE_SIZE, has_bit};
 use uffd_log::{Answer, Errno};
 
 /// Whether pages that are missing are protected too.

@@ -19,7 +19,7 @@ use crate::kernel_table::KernelTable;
 use crate::known::Phase;
 use crate::object::Object;
 use crate::telling::{remove_number, remove_spans};
-use mig_base::{NoMemory, PAGE_SIZE};
+use foundation::{NoMemory, PAGE_SIZE};
 use uffd_log::{Answer, Errno, Message};
 
 /// A read of an object: its number in the log, and its thread, where page faults name that by the same number.

@@ -63,7 +63,7 @@ pub enum Move {
         key: u32,
         at: usize,
     },
-    /// A thread finds that it has to wait at a page.
+    /// A thread finds that it must wait at a page.
     Sees {
         thread: u64,
         object: u64,

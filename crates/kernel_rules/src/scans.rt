@@ -1,7 +1,7 @@
 //! What a recorder has read of the pages of an object, by the rule of `specs/Ioctls.antt`. After `NoMemory` a table is not to be used.
 
 ghost use Rattle.std.specs.Prelude.{◌≡◌, ◌≤◌, ◌+◌, ◌/◌, ◌^◌, IfOk, OnOk};
-ghost use Rattle.mig_base.specs.declared.TheConstants.{PAGE_SIZE};
+ghost use Rattle.foundation.specs.declared.TheConstants.{PAGE_SIZE};
 ghost use Rattle.kernel_rules.specs.State.{allowed};
 ghost use Rattle.kernel_rules.specs.Ioctls.{scanned, settled_by, settled_in, settled_to};
 ghost use Rattle.kernel_rules.specs.Held.{kernel_of, AreTables};
@@ -12,7 +12,7 @@ use crate::kernel_table::KernelTable;
 use crate::known::Presence;
 use crate::object::Object;
 use crate::run::Run;
-use mig_base::{NoMemory, PAGE_SIZE};
+use foundation::{NoMemory, PAGE_SIZE};
 use uffd_log::Answer;
 
 /// The page after a run.

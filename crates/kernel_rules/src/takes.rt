@@ -15,7 +15,7 @@ use crate::moves::moved_range;
 use crate::object::Object;
 use crate::reads::{Reading, may_return};
 use crate::run::{Ending, Made};
-use mig_base::NoMemory;
+use foundation::NoMemory;
 use uffd_log::{Answer, Call, Errno};
 
 /// The object on which a call is made, if it is on one.

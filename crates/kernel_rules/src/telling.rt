@@ -3,7 +3,7 @@
 
 ghost use Rattle.std.specs.Prelude.{◌≡◌, ◌<◌, ◌≤◌, ◌+◌, ◌*◌, ◌^◌, ◌==◌, ◌++◌, ◌∷◌, [], filter, length, not, IfOk, OnOk};
 ghost use Rattle.std.specs.List.{list_any};
-ghost use Rattle.mig_base.specs.declared.TheConstants.{PAGE_SIZE};
+ghost use Rattle.foundation.specs.declared.TheConstants.{PAGE_SIZE};
 ghost use Rattle.kernel_rules.specs.State.{allowed};
 ghost use Rattle.kernel_rules.specs.Ioctls as ioctl;
 ghost use Rattle.kernel_rules.specs.Ioctls.{span_of};
@@ -17,7 +17,7 @@ use crate::closes::is_own;
 use crate::kernel_table::KernelTable;
 use crate::object::Registration;
 use crate::page_test::PageTest;
-use mig_base::{NoMemory, PAGE_SIZE};
+use foundation::{NoMemory, PAGE_SIZE};
 use std::alloc::Global;
 use uffd_log::Message;
 

@@ -11,6 +11,7 @@
 mod bytes;
 mod form;
 pub mod laws;
+mod line_words;
 mod linter;
 mod near;
 mod number;
@@ -20,7 +21,6 @@ mod reason;
 mod run;
 mod walk;
 mod wanted;
-mod words;
 
 pub use crate::reason::{Reason, reason_of};
-pub use crate::run::lint_lines;
+pub use crate::run::{Listed, lint_lines};

@@ -1,7 +1,7 @@
 //! Lines of a run's output, which are neither scripts nor transcripts.
 
+use crate::line_words::Words;
 use crate::wanted::Wanted;
-use crate::words::Words;
 
 /// How the lines of effects begin, and with which word the others do.
 const FRONTS: &[&str] = &[

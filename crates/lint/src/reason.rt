@@ -1,10 +1,10 @@
 //! Why a line is wrong, and where.
 
 use crate::bytes::byte_fault;
+use crate::line_words::Word;
 use crate::output::is_output;
 use crate::problem::{Problem, Shown, case_of};
 use crate::walk::{entry_fault, order_fault};
-use crate::words::Word;
 use grammar::Language;
 use std::fmt;
 

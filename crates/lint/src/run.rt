@@ -1,6 +1,7 @@
 //! Reading a script or a transcript from a reader, and writing the listing of its wrong lines to a writer.
 
-ghost use Rattle.std.specs.Prelude.{◌≡◌, IfOk, IfErr, IfSome};
+ghost use Rattle.std.specs.Prelude.{◌≡◌, IfOk, IfSome};
+ghost use Rattle.engine.specs.Lines.{FaultsAs};
 ghost use Rattle.lint.specs.Listing.{ListsAll, ListingStops};
 
 use crate::linter::Linter;
@@ -10,7 +11,16 @@ use grammar::Language;
 use std::alloc::Global;
 use std::io::{Read, Write};
 
-/// Reads a whole script or transcript, as the language says, and lists its wrong lines: for each, in order, it writes
+/// An input whose wrong lines are listed.
+#[derive(Clone, Copy)]
+pub struct Listed<'a> {
+    /// How the listing names it.
+    pub name: &'a str,
+    /// Whether it is a script or a transcript.
+    pub language: Language,
+}
+
+/// Reads a whole script or transcript, and lists its wrong lines: for each, in order, it writes
 /// `NAME:LINE:COLUMN: reason` and a line feed. LINE is the number of the line and COLUMN that of the byte where the reason is,
 /// both counted from 1. True where no line is wrong.
 ///
@@ -22,16 +32,16 @@ pub fn lint_lines<R: Read, W: Write>(
     alloc: Global,
     reader: &mut R,
     writer: &mut W,
-    name: &str,
-    language: Language,
+    listed: Listed<'_>,
 ) -> Result<bool, RunFault>
     ensures ok { IfOk result (λ answer. IfSome (R.remaining reader.old) (λ input.
-        ListsAll language name.now input answer (W.contents writer.old) (W.contents writer.new))) }
-    ensures fault { IfErr result (λ fault. IfSome (R.remaining reader.old) (λ input.
-        ListingStops language name.now input (R.remaining reader.new) fault (W.contents writer.old)
+        ListsAll listed.entry.language listed.entry.name.now input answer (W.contents writer.old)
         (W.contents writer.new))) }
+    ensures fault { FaultsAs result (ListingStops listed.entry.language listed.entry.name.now)
+        (R.remaining reader.old) (R.remaining reader.new) (W.contents writer.old)
+        (W.contents writer.new) }
 {
-    let mut linter = Linter::new(alloc, name, language);
+    let mut linter = Linter::new(alloc, listed.name, listed.language);
     read_lines(alloc, reader, writer, &mut linter)?;
     Ok(linter.clean)
 }

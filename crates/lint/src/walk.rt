@@ -1,12 +1,12 @@
 //! Going over the words of a line, up to the first that is wrong.
 
 use crate::form::{Form, Tail, Usage, command_form, order_form, reply_form};
+use crate::line_words::{Word, Words};
 use crate::near::{in_other_case, meant, nearest};
 use crate::number::{is_meant, number_fault};
 use crate::problem::Problem;
 use crate::reason::Fault;
 use crate::wanted::Wanted;
-use crate::words::{Word, Words};
 use grammar::Language;
 
 const COMMENT: Problem = Problem::Plain("a comment stands on a line of its own");

@@ -12,8 +12,8 @@ use Rattle.uffd_log.specs.declared.line.Line.{Line}
 use Rattle.uffd_log.specs.declared.line.Line.TheVariants as line
 use Rattle.uffd_log.specs.declared.line.Stamp.{Stamp}
 use Rattle.kernel_rules.specs.declared.run.Made.{Made}
-use Rattle.mig_base.specs.declared.NoMemory.{NoMemory}
-use Rattle.mig_base.specs.Tests.{is_empty}
+use Rattle.foundation.specs.declared.NoMemory.{NoMemory}
+use Rattle.foundation.specs.Tests.{is_empty}
 use Rattle.kernel_rules.specs.Runs.{Event, Outcome, begins, ends}
 use Rattle.log_entries.specs.declared.log_line.LogLine.{LogLine}
 use Rattle.log_entries.specs.declared.entry_reader.EntryReader.{EntryReader}

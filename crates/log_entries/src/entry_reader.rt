@@ -1,7 +1,7 @@
 //! Reading events from the lines of a log.
 
 ghost use Rattle.std.specs.Prelude.{◌≡◌, ◌==◌, ◌++◌, ◌∷◌, [], ℕ, List, true, not, filter_map, if◌then◌else◌, IfOk, OnOk};
-ghost use Rattle.mig_base.specs.Tests.{is_empty};
+ghost use Rattle.foundation.specs.Tests.{is_empty};
 ghost use Rattle.uffd_log.specs.declared.line.Line.TheVariants as line;
 ghost use Rattle.log_entries.specs.declared.log_line.LogLine.{LogLine as LogLineOf};
 ghost use Rattle.log_entries.specs.Events.{is_new_program, is_of, is_read_line, made_by, message_in, run_in};
@@ -9,9 +9,9 @@ ghost use Rattle.log_entries.specs.Readers.{others, own, program_in, HasRead};
 
 use crate::log_line::{LogLine, is_of, message_in, run_in};
 use crate::store::EntryStore;
+use foundation::NoMemory;
 use indexmap::IndexMap;
 use kernel_rules::{Made, Run};
-use mig_base::NoMemory;
 use std::alloc::Global;
 use uffd_log::{Answer, Call, Descriptor, Line, Message, Stamp};
 

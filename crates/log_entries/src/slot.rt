@@ -8,8 +8,8 @@ ghost use Rattle.log_entries.specs.Stores.{event_in, made_in, messages_at, runs_
 use crate::settle::settled;
 use crate::shape::{addresses_of, made_with, shape_of};
 use crate::tables::{Span, Tables};
+use foundation::NoMemory;
 use kernel_rules::{Ending, Entry, Made, Run};
-use mig_base::NoMemory;
 use uffd_log::{Answer, Message};
 
 /// A call begins, with the index of its shape and its addresses, or ends, with the index of its answer and what it has read.

@@ -7,8 +7,8 @@ ghost use Rattle.log_entries.specs.Stores.{made_in, messages_at, runs_at, settle
 
 use crate::slot::Slot;
 use crate::tables::Tables;
+use foundation::NoMemory;
 use kernel_rules::{Entry, Made, Run};
-use mig_base::NoMemory;
 use std::alloc::Global;
 use std::marker::Model;
 use uffd_log::{Answer, Message};

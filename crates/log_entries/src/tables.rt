@@ -3,8 +3,8 @@
 ghost use Rattle.std.specs.Prelude.{◌≡◌, true, Some, slice_get, IfOk, IfSome};
 ghost use Rattle.log_entries.specs.Stores.{part_of, IsGrown, IsPart};
 
+use foundation::NoMemory;
 use kernel_rules::{Made, Run};
-use mig_base::NoMemory;
 use std::alloc::Global;
 use uffd_log::{Answer, Message};
 

@@ -9,12 +9,12 @@ use Rattle.mig_base.specs.declared.command.Command.TheVariants.{Store, Mmap, Mun
 use Rattle.mig_base.specs.declared.command.Reply.{Reply}
 use Rattle.mig_base.specs.declared.command.Reply.TheVariants.{Done, At, Refused}
 use Rattle.mig_base.specs.declared.command.Entry.{Entry}
-use Rattle.mig_base.specs.Ranges.{in_range, rounded}
+use Rattle.foundation.specs.Ranges.{in_range, rounded}
 use Rattle.mig_base.specs.Flat.{Memory, Cell, is_mapped, no_memory, fill, zeros_with, moved, grown, same_prot, has_one_prot, overlaps, written, reply_of, changed, after, memory_from, memory_of}
-use Rattle.mig_base.proofs.RangeLemmas.{none_below_tells, in_range-false_below, in_range-false_above}
+use Rattle.foundation.proofs.RangeLemmas.{none_below_tells, in_range-false_below, in_range-false_above}
 use Rattle.mig_base.proofs.ReplyLemmas.{IsInside, IsRemapped, found_inside, mmap_inside, mremap_told}
 use Rattle.mig_base.proofs.ReplyLemmas.IsWhere.{Shrunk, Grew, Moved, Told}
-use Rattle.mig_base.proofs.TestLemmas.{and_second, cond_none}
+use Rattle.foundation.proofs.TestLemmas.{and_second, cond_none}
 
 abbrev pub IsBounded : Memory → Type 0
 IsBounded memory = (addr : ℕ) → (addr < LOW) ⊎ (HIGH ≤ addr) → memory addr ≡ None

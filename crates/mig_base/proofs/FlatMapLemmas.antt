@@ -11,13 +11,13 @@ use Rattle.mig_base.specs.declared.command.Command.TheVariants.{Store, Mmap, Mun
 use Rattle.mig_base.specs.declared.command.Errno.TheVariants.{Enomem}
 use Rattle.mig_base.specs.declared.command.Reply.{Reply}
 use Rattle.mig_base.specs.declared.command.Reply.TheVariants.{Done, At, Refused}
-use Rattle.mig_base.specs.Ranges.{in_range, rounded}
+use Rattle.foundation.specs.Ranges.{in_range, rounded}
 use Rattle.mig_base.specs.Flat.{Cell, Memory, zeros_with, grown, zeroed, write, written, reply_of, changed, memory_from, memory_of, mapped_count}
 use Rattle.mig_base.specs.FlatMap.{Map, look, put_byte, write_map, zeroed_map, changed_map, map_from, map_of}
 use Rattle.mig_base.proofs.PageLemmas.{get-set_range, get-remove_range, get-moved_range, count_below-contains_key}
 use Rattle.mig_base.proofs.BoundLemmas.{memory_of_bounded}
 use Rattle.mig_base.specs.declared.TheConstants.{HIGH}
-use Rattle.mig_base.proofs.RangeLemmas.{in_range-none, in_range-end, in_range-last}
+use Rattle.foundation.proofs.RangeLemmas.{in_range-none, in_range-end, in_range-last}
 
 before : (first count q : ℕ) → q ≢ first + count → in_range first (suc count) q ≡ in_range first count q
 before first count q h = grind (arith, nat_tests)

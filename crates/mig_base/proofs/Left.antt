@@ -5,10 +5,10 @@ use Rattle.std.specs.FinSet.{FinSet, contains, empty, len, remove, contains-empt
 use Rattle.std.proofs.lemmas.Bool.{cases_lt, false≢true}
 use Rattle.mig_base.specs.declared.TheConstants.{HIGH_PAGE}
 use Rattle.mig_base.specs.declared.Run.{Run}
-use Rattle.mig_base.specs.Ranges.{in_range}
+use Rattle.foundation.specs.Ranges.{in_range}
 use Rattle.mig_base.specs.Sets.{without}
 use Rattle.mig_base.specs.PageSets.{from_on, IsFirstPage, IsFirstRun}
-use Rattle.mig_base.proofs.RangeLemmas.{in_range-true, ranges}
+use Rattle.foundation.proofs.RangeLemmas.{in_range-true, ranges}
 use Rattle.mig_base.proofs.SetLemmas.{member_removed, member_without, same_members}
 use Rattle.mig_base.proofs.SetSizes.{len-fewer, len-removed, len-some}
 

@@ -1,5 +1,4 @@
-pub mod TestLemmas
-pub mod RangeLemmas
+pub mod FreePlaceLemmas
 pub mod PlaceLemmas
 pub mod PageLemmas
 pub mod ByteLemmas

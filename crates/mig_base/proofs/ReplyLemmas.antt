@@ -9,10 +9,11 @@ use Rattle.mig_base.specs.declared.command.Place.{Place}
 use Rattle.mig_base.specs.declared.command.Place.TheVariants.{Anywhere, Fixed, NoReplace}
 use Rattle.mig_base.specs.declared.command.Reply.{Reply}
 use Rattle.mig_base.specs.declared.command.Reply.TheVariants.{Done, At, Refused}
-use Rattle.mig_base.specs.Ranges.{rounded, free_place}
+use Rattle.foundation.specs.Ranges.{rounded}
+use Rattle.mig_base.specs.FreePlaces.{free_place}
 use Rattle.mig_base.specs.Flat.{Memory, is_mapped, mapped_count, fill, zeros_with, is_page_start, is_unmapped, exceeds_limit, place_refusals, first_refusal, at_place, mmap_reply, munmap_reply, dontneed_reply, has_one_prot, moved, is_bad_target, can_grow, overlaps, mremap_place, mremap_target, mremap_reply}
-use Rattle.mig_base.proofs.RangeLemmas.{place_found, four_hold}
-use Rattle.mig_base.proofs.TestLemmas.{or_first, or_second, positive}
+use Rattle.mig_base.proofs.FreePlaceLemmas.{place_found, four_hold}
+use Rattle.foundation.proofs.TestLemmas.{or_first, or_second, positive}
 
 -- no refusal of the list applies
 abbrev pub NoneApplies : List (Bool × Errno) → Type 0

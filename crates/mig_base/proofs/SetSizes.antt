@@ -7,9 +7,9 @@ use Rattle.std.specs.FinSet.{FinSet, contains, len, contains-empty, empty_of_len
 use Rattle.std.proofs.lemmas.Bool.{cases_lt, false≢true}
 use Rattle.std.proofs.lemmas.Bool.Decides.{nat_tests}
 use Rattle.mig_base.specs.declared.TheConstants.{HIGH_PAGE}
-use Rattle.mig_base.specs.Ranges.{count_below}
+use Rattle.foundation.specs.Ranges.{count_below}
 use Rattle.mig_base.specs.Sets.{set_below}
-use Rattle.mig_base.proofs.TestLemmas.{all_below}
+use Rattle.foundation.proofs.TestLemmas.{all_below}
 use Rattle.mig_base.proofs.SetLemmas.{len-set_below, member_below, same_members}
 
 more_if : (b c : Bool) (m n : ℕ) → (b ≡ true → c ≡ true) → m ≤ n → m + cond b 1 0 ≤ n + cond c 1 0

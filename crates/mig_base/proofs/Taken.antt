@@ -4,12 +4,12 @@ use Rattle.std.specs.Ordering.{nat_cmp}
 use Rattle.std.specs.FinSet.{FinSet, contains, empty, remove, contains-empty}
 use Rattle.std.proofs.lemmas.Bool.{eqb-true}
 use Rattle.mig_base.specs.declared.Run.{Run}
-use Rattle.mig_base.specs.Ranges.{in_range}
+use Rattle.foundation.specs.Ranges.{in_range}
 use Rattle.mig_base.specs.Sets.{without}
 use Rattle.mig_base.specs.PageSets.{IsFirstPage, IsFirstRun}
-use Rattle.mig_base.proofs.RangeLemmas.{in_range_bounds}
+use Rattle.foundation.proofs.RangeLemmas.{in_range_bounds}
 use Rattle.mig_base.proofs.SetLemmas.{member_removed, member_without}
-use Rattle.mig_base.proofs.TestLemmas.{and_first, and_second}
+use Rattle.foundation.proofs.TestLemmas.{and_first, and_second}
 
 -- what is left is a part of the set
 abbrev pub IsPart : FinSet nat_cmp → FinSet nat_cmp → Type 0

@@ -1,6 +1,6 @@
 -- What a handler reports when it resolves a fault.
 use Rattle.std.specs.Prelude.{ℕ, ◌*◌}
-use Rattle.mig_base.specs.declared.TheConstants.{PAGE_SIZE}
+use Rattle.foundation.specs.declared.TheConstants.{PAGE_SIZE}
 use Rattle.mig_base.specs.declared.act.Act.{Act}
 use Rattle.mig_base.specs.declared.effect.Effect.{Effect}
 

@@ -1,6 +1,6 @@
 -- Commands: which of them are accesses, and what these touch.
 use Rattle.std.specs.Prelude.{ℕ, ◌/◌, Bool, true, false}
-use Rattle.mig_base.specs.declared.TheConstants.{PAGE_SIZE}
+use Rattle.foundation.specs.declared.TheConstants.{PAGE_SIZE}
 use Rattle.mig_base.specs.declared.command.Command.{Command}
 use Rattle.mig_base.specs.declared.command.Command.TheVariants.{Load, Store, Mmap, Munmap, Mremap, DontNeed}
 

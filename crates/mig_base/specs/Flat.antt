@@ -2,7 +2,8 @@
 -- munmap(2), mremap(2) and madvise(2) for anonymous private mappings; where several errors apply, the order is this project's.
 -- Sums of addresses and lengths are whole numbers, which never wrap.
 use Rattle.std.specs.Prelude.{◌≡◌, ℕ, zero, suc, ◌+◌, ◌-◌, ◌*◌, ◌/◌, ◌%◌, ◌^◌, ◌==◌, ◌&&◌, ◌||◌, Bool, true, false, not, nat_lt, nat_le, if◌then◌else◌, Option, Some, None, is_some, List, [], ◌∷◌, ◌++◌}
-use Rattle.mig_base.specs.declared.TheConstants.{PAGE_SIZE, LOW, HIGH, MAX_PAGES}
+use Rattle.foundation.specs.declared.TheConstants.{PAGE_SIZE}
+use Rattle.mig_base.specs.declared.TheConstants.{LOW, HIGH, MAX_PAGES}
 use Rattle.mig_base.specs.declared.Prot.{Prot}
 use Rattle.mig_base.specs.declared.Prot.TheVariants.{NoAccess, Read, ReadWrite}
 use Rattle.mig_base.specs.declared.command.Errno.{Errno}
@@ -15,8 +16,9 @@ use Rattle.mig_base.specs.declared.command.Reply.{Reply}
 use Rattle.mig_base.specs.declared.command.Reply.TheVariants.{Value, Done, At, Segv, BadAccess, Refused}
 use Rattle.mig_base.specs.declared.command.Entry.{Entry}
 use Rattle.mig_base.specs.Codes.{prot_number}
-use Rattle.mig_base.specs.Tests.{first_by}
-use Rattle.mig_base.specs.Ranges.{in_range, count_below, none_below, rounded, free_place}
+use Rattle.foundation.specs.Tests.{first_by}
+use Rattle.foundation.specs.Ranges.{in_range, count_below, none_below, rounded}
+use Rattle.mig_base.specs.FreePlaces.{free_place}
 
 -- a byte with its protection: `prot` of mmap(2), DESCRIPTION
 pub record Cell : Type 0 where

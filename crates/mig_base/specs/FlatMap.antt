@@ -8,7 +8,7 @@ use Rattle.mig_base.specs.declared.command.Command.TheVariants.{Store, Mmap, Mun
 use Rattle.mig_base.specs.declared.command.Errno.TheVariants.{Enomem}
 use Rattle.mig_base.specs.declared.command.Reply.{Reply}
 use Rattle.mig_base.specs.declared.command.Reply.TheVariants.{Done, At, Refused}
-use Rattle.mig_base.specs.Ranges.{rounded}
+use Rattle.foundation.specs.Ranges.{rounded}
 use Rattle.mig_base.specs.Pages.{set_range, remove_range, moved_range}
 use Rattle.mig_base.specs.Flat.{Cell, Memory, zeros_with, grown, reply_of}
 

@@ -1,5 +1,4 @@
-pub mod Ranges
-pub mod Tests
+pub mod FreePlaces
 pub mod Flat
 pub mod Commands
 pub mod FlatMap

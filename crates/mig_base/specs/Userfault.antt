@@ -3,23 +3,17 @@
 use Rattle.std.specs.Prelude.{ℕ, ◌+◌, ◌==◌, ◌&&◌, ◌||◌, not, Bool, true, false, if◌then◌else◌, Option, Some, None, List, [], ◌∷◌, ◌++◌, length}
 use Rattle.std.specs.Ordering.{nat_cmp}
 use Rattle.std.specs.FinSet.{FinSet, empty, contains}
+use Rattle.foundation.specs.Modes.{Mode}
 use Rattle.mig_base.specs.declared.message.Message.{Message}
 use Rattle.mig_base.specs.declared.message.Message.TheVariants.{PageFault, Remap, Remove, Unmap}
-use Rattle.mig_base.specs.Bits.{is_one}
-use Rattle.mig_base.specs.Ranges.{none_below}
+use Rattle.foundation.specs.Bits.{is_one}
+use Rattle.foundation.specs.Ranges.{none_below}
 use Rattle.mig_base.specs.Sets.{without, pages_where, moved_set}
 
 -- a message that waits, and the processor that caused it
 pub record Noted : Type 0 where
   pub message : Message
   pub cpu : ℕ
-
--- the modes in which a page may be registered: ioctl_userfaultfd(2), UFFDIO_REGISTER
-pub record Mode : Type 0 where
-  -- a load or store of the page is a fault while it is missing: UFFDIO_REGISTER_MODE_MISSING
-  pub missing : Bool
-  -- a store to the page is a fault while it is write-protected: UFFDIO_REGISTER_MODE_WP
-  pub protect : Bool
 
 -- a userfault object
 pub record Object : Type 0 where

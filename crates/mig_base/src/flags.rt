@@ -1,8 +1,7 @@
 //! The numbers in the calls of a userfault object, as in `linux/userfaultfd.h`. A constant whose name ends in `_BIT` is the
 //! place of a bit, which [`has_bit`] tests; the others are whole words.
 
-ghost use Rattle.std.specs.Prelude.{◌≡◌, ◌<◌};
-ghost use Rattle.mig_base.specs.Bits.{is_one};
+pub use foundation::has_bit;
 
 /// UFFD_API, for which a handshake asks.
 pub const API: u64 = 0xaa;
@@ -47,11 +46,3 @@ pub const WRITEPROTECT_WP_BIT: u32 = 0;
 
 /// UFFDIO_WRITEPROTECT_MODE_DONTWAKE.
 pub const WRITEPROTECT_DONTWAKE_BIT: u32 = 1;
-
-/// Whether a flag is set.
-pub fn has_bit(flags: u64, i: u32) -> bool
-    requires { i < 64 }
-    ensures { result ≡ is_one flags i }
-{
-    (flags >> i) & 1 == 1
-}

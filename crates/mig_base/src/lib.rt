@@ -12,7 +12,7 @@
 
 ghost use Rattle.std.specs.Prelude.{◌≡◌, ◌+◌, ◌*◌, ◌/◌};
 ghost use Rattle.mig_base.specs.Flat as flat;
-ghost use Rattle.mig_base.specs.declared.TheConstants.{PAGE_SIZE};
+ghost use Rattle.foundation.specs.declared.TheConstants.{PAGE_SIZE};
 
 pub mod act;
 pub mod chunk;
@@ -43,8 +43,7 @@ pub use crate::page_bytes::PageBytes;
 pub use crate::page_set::PageSet;
 pub use crate::phase::WorldPhase;
 pub use crate::wake::Wake;
-use std::alloc::{AllocError, AllocFailed};
-use thiserror::Error;
+pub use foundation::{NoMemory, PAGE_SIZE};
 
 /// An address of the guest, in bytes.
 pub type Addr = u64;
@@ -52,10 +51,7 @@ pub type Addr = u64;
 /// A page by its number: its first address divided by [`PAGE_SIZE`]. Pages lie below [`HIGH_PAGE`].
 pub type PageNo = u32;
 
-/// The size of a page, in bytes.
-pub const PAGE_SIZE: u64 = 4096;
-
-/// The same as a `usize`, for the length of an array.
+/// The size of a page, [`PAGE_SIZE`], as a `usize`, for the length of an array.
 pub const PAGE_BYTES: usize = 4096;
 
 /// The lowest address that may be mapped.
@@ -141,21 +137,4 @@ pub struct Run {
     pub first: PageNo,
     /// Pages, at least 1.
     pub count: u32,
-}
-
-/// An allocation failed.
-#[derive(Clone, Copy, Debug, PartialEq, Eq, Error)]
-#[error("no memory")]
-pub struct NoMemory;
-
-impl From<AllocError> for NoMemory {
-    fn from(_error: AllocError) -> Self {
-        NoMemory
-    }
-}
-
-impl<T: Drop> From<AllocFailed<T>> for NoMemory {
-    fn from(_failed: AllocFailed<T>) -> Self {
-        NoMemory
-    }
 }

@@ -3,7 +3,7 @@
 ghost use Rattle.std.specs.Prelude.{◌≡◌, ◌+◌, ◌<◌, ◌≤◌, ◌↔◌, true, length, IfOk};
 ghost use Rattle.std.specs.List.{All};
 ghost use Rattle.mig_base.specs.Bytes.{overwrite, zero_page};
-ghost use Rattle.mig_base.specs.declared.TheConstants.{PAGE_SIZE};
+ghost use Rattle.foundation.specs.declared.TheConstants.{PAGE_SIZE};
 
 use crate::{NoMemory, PAGE_BYTES};
 use std::alloc::Global;
@@ -20,7 +20,7 @@ pub struct PageBytes {
 
 impl Model for PageBytes {
     ghost use Rattle.std.specs.Prelude.{◌≡◌, ℕ, List, length};
-    ghost use Rattle.mig_base.specs.declared.TheConstants.{PAGE_SIZE};
+    ghost use Rattle.foundation.specs.declared.TheConstants.{PAGE_SIZE};
 
     ghost Value = { List ℕ };
 

@@ -12,7 +12,7 @@ use Rattle.mig_base.specs.declared.phase.SourcePhase.{SourcePhase}
 use Rattle.mig_base.specs.declared.refusal.Refusal.{Refusal}
 use Rattle.mig_base.specs.declared.schedule.Side.{Side}
 use Rattle.mig_base.specs.declared.schedule.Step.{Step}
-use Rattle.mig_base.proofs.TestLemmas.{or_first}
+use Rattle.foundation.proofs.TestLemmas.{or_first}
 use Rattle.mig_model.specs.GuestSteps.{issue, retry, when_quiet}
 use Rattle.mig_model.specs.Log.{forgotten, no_pages, present}
 use Rattle.mig_model.specs.NodeSteps.{first_of}

@@ -13,7 +13,7 @@ use Rattle.mig_base.specs.declared.command.Reply.TheVariants.{Done, At, BadAcces
 use Rattle.mig_base.specs.Bytes.{contents, low_bytes, overwrite, zero_page}
 use Rattle.mig_base.specs.Flat.{is_aligned, reply_of}
 use Rattle.mig_base.specs.Pages.{moved_range, remove_range, set_range}
-use Rattle.mig_base.specs.Ranges.{pages_of}
+use Rattle.foundation.specs.Ranges.{pages_of}
 use Rattle.mig_model.specs.Host.{Host, host_after, host_changed, memory}
 use Rattle.mig_laws.specs.Contents.{AreWholePages, IsByteMap, command_under, host_under, number_under, pages_under, reply_under, stored_under}
 use Rattle.mig_laws.proofs.Numbers.{low_bytes-under}

@@ -4,9 +4,9 @@ use Rattle.std.specs.FinSet.{contains}
 use Rattle.std.proofs.lemmas.List.{take-map, drop-map, length-map}
 use Rattle.mig_base.specs.declared.command.Errno.{Errno}
 use Rattle.mig_base.specs.declared.command.Errno.TheVariants.{Eexist}
-use Rattle.mig_base.specs.Bits.{is_one}
+use Rattle.foundation.specs.Bits.{is_one}
 use Rattle.mig_base.specs.Bytes.{zero_page}
-use Rattle.mig_base.specs.Ranges.{in_range, least_below}
+use Rattle.foundation.specs.Ranges.{in_range, least_below}
 use Rattle.mig_base.specs.Sets.{pages_where}
 use Rattle.mig_model.specs.Ioctls.{answer_put, copied, copy_answer, copy_error, handed, handshake_error, handshaken, installed, left_by, missing_run, protected_in, put_answer, range_unregistered, read_error, read_space, register_error, registered, unregister_error, write_protected, writeprotect_error, zeropage_answer, zeropage_error, zeropaged}
 use Rattle.mig_model.specs.Guest.{is_present, zero_installed}

@@ -5,7 +5,7 @@ use Rattle.std.specs.Ordering.{nat_cmp, eq_by_cmp}
 use Rattle.std.specs.declared.cmp.Ordering.TheVariants.{Equal}
 use Rattle.std.specs.Cmp.{nat_cmp_total}
 use Rattle.std.specs.FinMap.{FinMap, find, entries, get, insert, empty, contains_key, retain_keys, get-empty, get-entries, get-from_entries, get-insert, get-retain_keys, nat_cmp-IsAntisymmetric}
-use Rattle.mig_base.specs.Ranges.{in_range}
+use Rattle.foundation.specs.Ranges.{in_range}
 use Rattle.mig_base.specs.Pages.{remove_range, moved_range}
 use Rattle.mig_base.proofs.PageLemmas.{same_pages, get-remove_range, get-moved_range}
 use Rattle.mig_model.specs.Ioctls.{put_pages}

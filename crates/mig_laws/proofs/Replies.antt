@@ -15,7 +15,8 @@ use Rattle.mig_base.specs.declared.command.Command.{Command}
 use Rattle.mig_base.specs.declared.command.Command.TheVariants.{Load, Store, Mmap, Munmap, Mremap, DontNeed}
 use Rattle.mig_base.specs.declared.command.Reply.{Reply}
 use Rattle.mig_base.specs.declared.command.Reply.TheVariants.{Value, Done, At, Segv, BadAccess, Refused}
-use Rattle.mig_base.specs.Ranges.{free_place, rounded}
+use Rattle.foundation.specs.Ranges.{rounded}
+use Rattle.mig_base.specs.FreePlaces.{free_place}
 use Rattle.mig_base.specs.declared.TheConstants.{HIGH, LOW, MAX_PAGES}
 use Rattle.mig_base.specs.Flat.{Cell, Memory, access_reply, allows_load, allows_store, at_place, byte_of, can_grow, dontneed_reply, exceeds_limit, fill, first_refusal, has_one_prot, is_aligned, is_all_mapped, is_bad_target, is_mapped, is_page_start, is_unmapped, mapped_count, moved, place_refusals, zeros_with, mmap_reply, mremap_place, mremap_reply, mremap_target, munmap_reply, number_at, reply_of}
 use Rattle.mig_model.specs.Bounds.{IsPageBytes}

@@ -15,7 +15,7 @@ use Rattle.mig_base.specs.declared.command.Reply.TheVariants.{Done, At, Refused}
 use Rattle.mig_base.specs.Bytes.{contents, low_bytes, overwrite, zero_page}
 use Rattle.mig_base.specs.Flat.{is_aligned, reply_of}
 use Rattle.mig_base.specs.Pages.{moved_range, remove_range}
-use Rattle.mig_base.specs.Ranges.{in_range, pages_of}
+use Rattle.foundation.specs.Ranges.{in_range, pages_of}
 use Rattle.mig_base.proofs.ByteLemmas.{length-overwrite, length-zero_page}
 use Rattle.mig_base.proofs.PageLemmas.{get-moved_range, get-remove_range}
 use Rattle.mig_model.specs.Bounds.{IsPageBytes}

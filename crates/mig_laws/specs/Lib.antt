@@ -2,6 +2,7 @@ pub mod Claims
 pub mod Contents
 pub mod Worlds
 pub mod Nodes
+pub mod Laws
 pub mod Runs
 pub mod Sides
 pub mod Orders

@@ -1,6 +1,6 @@
 -- What a step of a guest or of a node gives, changed by a map of bytes.
 use Rattle.std.specs.Prelude.{ℕ, ◌/◌, List, map, Result, Ok, Err}
-use Rattle.mig_base.specs.declared.TheConstants.{PAGE_SIZE}
+use Rattle.foundation.specs.declared.TheConstants.{PAGE_SIZE}
 use Rattle.mig_base.specs.declared.refusal.Refusal.{Refusal}
 use Rattle.mig_model.specs.Destination.{Destination}
 use Rattle.mig_model.specs.GuestSteps.{Tried}

@@ -108,7 +108,7 @@ bare_frame (Run first pages) = Run first (map (λ (bytes : List ℕ). []) pages)
 bare_frame (Package areas owed commands) = Package areas owed (map (option_map bare_command) commands)
 bare_frame frame = frame
 
--- two wires with the same frames but for contents, of which as many bytes have come
+-- two wires with the same frames but for contents, of which as many bytes have arrived
 pub record AreAlikeWires (old new : Wire) : Type 0 where
   pub frames : map (λ (sent : Sent). record sent { frame = bare_frame sent.frame }) new.frames ≡ map (λ (sent : Sent). record sent { frame = bare_frame sent.frame }) old.frames
   pub held : new.held ≡ old.held
@@ -153,3 +153,8 @@ pub record DecideAlike (old new : World) : Type 0 where
   pub back : AreAlikeWires old.back new.back
   pub urgent : AreAlikeWires old.urgent new.urgent
   pub up : new.up ≡ old.up
+
+-- the run of steps and that in which each store of the right form stores 0 decide alike, where the run has no delivery that ends inside a
+-- Page
+abbrev pub DecidesAsZeros : World → List Step → Type 0
+DecidesAsZeros world steps = NonePartial world steps → DecideAlike (after_steps world steps) (after_steps world (map (step_under zeros) steps))

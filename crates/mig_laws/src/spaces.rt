@@ -5,8 +5,9 @@ ghost use Rattle.mig_base.specs.declared.command.Command.{Command};
 ghost use Rattle.mig_base.specs.Flat.{reply_of};
 ghost use Rattle.mig_model.specs.Host.{Host, memory, host_after};
 ghost use Rattle.mig_model.specs.Ioctls.{copied, copy_answer, handshake_error, handshaken, range_unregistered, read_error, read_space, register_error, registered, unregister_error, wake_answer, write_protected, writeprotect_error, zeropage_answer, zeropaged};
-ghost use Rattle.mig_model.specs.Space.{Space, access_of, accessed, called, queued_by};
-ghost use Rattle.mig_laws.specs.Contents.{Changes, IsByteMap, access_under, command_under, host_under, reply_under, space_under};
+ghost use Rattle.mig_model.specs.Space.{Space};
+ghost use Rattle.mig_laws.specs.Contents.{Changes, IsByteMap, command_under, host_under, reply_under, space_under};
+ghost use Rattle.mig_laws.specs.Laws.{CommandsAlike};
 
 /// A command is answered by the changed space as by the old one, but for the value of a load, and leaves the changed space: it faults,
 /// is refused, or queues messages exactly where it did. A store of a wrong form keeps its value, and both spaces answer BadAccess.
@@ -17,17 +18,7 @@ pub fn commands_of_a_changed_space()
     ensures host { (f : ℕ → ℕ) (host : Host) (command : Command) → Changes f host →
         host_after (host_under f host) (command_under f command) ≡
         host_under f (host_after host command) }
-    ensures access { (f : ℕ → ℕ) (space : Space) (command : Command) → Changes f space.host →
-        access_of (space_under f space) (command_under f command) ≡
-        access_under f (access_of space command) }
-    ensures accessed { (f : ℕ → ℕ) (space : Space) (cpu : ℕ) (command : Command) →
-        Changes f space.host → accessed (space_under f space) cpu (command_under f command) ≡
-        space_under f (accessed space cpu command) }
-    ensures called { (f : ℕ → ℕ) (space : Space) (cpu : ℕ) (command : Command) →
-        Changes f space.host → called (space_under f space) cpu (command_under f command) ≡
-        space_under f (called space cpu command) }
-    ensures messages { (f : ℕ → ℕ) (space : Space) (command : Command) → Changes f space.host →
-        queued_by (space_under f space) (command_under f command) ≡ queued_by space command }
+    ensures space { (f : ℕ → ℕ) (space : Space) → Changes f space.host → CommandsAlike f space }
 {}
 
 /// Each call of the userfault object answers the same on the changed space, where the buffer of UFFDIO_COPY is changed too, and leaves the

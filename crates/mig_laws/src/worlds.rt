@@ -15,8 +15,8 @@ ghost use Rattle.mig_model.specs.Migration.{World, after_steps, first_world_with
 ghost use Rattle.mig_model.specs.Promises.{IsReached};
 ghost use Rattle.mig_model.specs.Whereabouts.{current_host};
 ghost use Rattle.mig_laws.specs.Contents.{IsByteMap, entry_under, memory_under, stored_under};
-ghost use Rattle.mig_laws.specs.Runs.{AnswersAlike, CompleteAlike, DecideAlike, IsReachedWhole, KeepsOthers, NonePartial, RefusesAlike, changed_outcomes, changed_run, is_long, outcomes_under, zeros};
-ghost use Rattle.mig_laws.specs.Worlds.{HasWholePages, is_partial, step_under, world_under};
+ghost use Rattle.mig_laws.specs.Runs.{AnswersAlike, CompleteAlike, DecideAlike, DecidesAsZeros, IsReachedWhole, KeepsOthers, NonePartial, RefusesAlike, changed_outcomes, changed_run, is_long, outcomes_under, zeros};
+ghost use Rattle.mig_laws.specs.Worlds.{HasWholePages, is_partial, world_under};
 
 /// Each page of a reached world is 4096 numbers below 256, wherever it is, and a frame Page is never all zeros.
 pub fn reached_worlds_have_whole_pages()
@@ -98,7 +98,5 @@ pub fn the_run_of_zeros()
     ensures store { (addr width value : ℕ) → stored_under zeros addr width value ≡
         (if is_aligned addr width && nat_lt value (256 ^ width) then 0 else value) }
     ensures run { (cpus epoch rounds : ℕ) (steps : List Step) →
-        NonePartial (first_world_with cpus epoch rounds) steps → DecideAlike
-        (after_steps (first_world_with cpus epoch rounds) steps)
-        (after_steps (first_world_with cpus epoch rounds) (map (step_under zeros) steps)) }
+        DecidesAsZeros (first_world_with cpus epoch rounds) steps }
 {}

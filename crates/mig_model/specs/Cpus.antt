@@ -38,7 +38,7 @@ outstanding (CpuState.Asleep command) = Some command
 outstanding (CpuState.Woken command) = Some command
 outstanding (CpuState.InCall reply left) = None
 
--- the state in which the destination's processor takes over an outstanding command of the Package: it has to be retried
+-- the state in which the destination's processor takes over an outstanding command of the Package: it must be retried
 abbrev pub taken_over : Option Command → CpuState
 taken_over None = CpuState.Idle
 taken_over (Some command) = CpuState.Woken command

@@ -13,7 +13,8 @@ use Rattle.mig_base.specs.declared.command.Command.{Command}
 use Rattle.mig_base.specs.declared.phase.DestPhase.{DestPhase}
 use Rattle.mig_base.specs.declared.phase.Received.{Received}
 use Rattle.mig_base.specs.Bytes.{zero_page}
-use Rattle.mig_base.specs.Userfault.{Noted, Mode, fresh_object, enabled_with, registered_where}
+use Rattle.foundation.specs.Modes.{Mode}
+use Rattle.mig_base.specs.Userfault.{Noted, fresh_object, enabled_with, registered_where}
 use Rattle.mig_model.specs.Space.{Space, fresh_space}
 use Rattle.mig_model.specs.Ioctls.{event_features, installed as pages_installed}
 use Rattle.mig_model.specs.Cpus.{idle_processors, taken_over}

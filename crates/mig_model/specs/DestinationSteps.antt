@@ -1,9 +1,9 @@
 -- The steps of the destination. The sentence above a step names its refusals in the order in which they are tested; the first that
 -- applies is given.
 use Rattle.std.specs.Prelude.{ℕ, ◌*◌, ◌&&◌, not, ok_or, Result, [], ◌∷◌}
-use Rattle.mig_base.specs.Tests.{is_empty}
+use Rattle.foundation.specs.Tests.{is_empty}
 use Rattle.mig_base.specs.Acts.{act_effect}
-use Rattle.mig_base.specs.declared.TheConstants.{PAGE_SIZE}
+use Rattle.foundation.specs.declared.TheConstants.{PAGE_SIZE}
 use Rattle.mig_base.specs.declared.effect.Effect.{Effect}
 use Rattle.mig_base.specs.declared.refusal.Refusal.{Refusal}
 use Rattle.mig_base.specs.declared.schedule.Side.{Side}

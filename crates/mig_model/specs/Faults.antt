@@ -11,7 +11,7 @@ use Rattle.mig_base.specs.declared.fault.RebuildFault.{RebuildFault}
 use Rattle.mig_base.specs.declared.fault.TakeFault.{TakeFault}
 use Rattle.mig_base.specs.declared.phase.DestPhase.{DestPhase}
 use Rattle.mig_base.specs.declared.phase.Received.{Received}
-use Rattle.mig_base.specs.Tests.{first_holding, is_empty}
+use Rattle.foundation.specs.Tests.{first_holding, is_empty}
 use Rattle.mig_model.specs.Wire.{Frame, is_copy}
 use Rattle.mig_model.specs.Wire.Frame.{Advise, Page, Zero, Run, Discard, Package, End, Resume, Request, Recv, Done}
 use Rattle.mig_model.specs.Log.{less, present}

@@ -5,7 +5,8 @@ use Rattle.std.specs.Ordering.{nat_cmp}
 use Rattle.std.specs.FinMap as map
 use Rattle.std.specs.FinMap.{FinMap, get, insert, empty}
 use Rattle.std.specs.Coded.{Coded, code_by, coded×, coded_ℕ, coded_list}
-use Rattle.mig_base.specs.declared.TheConstants.{PAGE_SIZE, HIGH_PAGE}
+use Rattle.foundation.specs.declared.TheConstants.{PAGE_SIZE}
+use Rattle.mig_base.specs.declared.TheConstants.{HIGH_PAGE}
 use Rattle.mig_base.specs.declared.Prot.{Prot}
 use Rattle.mig_base.specs.declared.command.Command.{Command}
 use Rattle.mig_base.specs.declared.command.Command.TheVariants.{Store, Mmap, Munmap, Mremap, DontNeed}
@@ -13,7 +14,7 @@ use Rattle.mig_base.specs.declared.command.Errno.TheVariants.{Enomem}
 use Rattle.mig_base.specs.declared.command.Reply.{Reply}
 use Rattle.mig_base.specs.declared.command.Reply.TheVariants.{Done, At, Refused}
 use Rattle.mig_base.specs.Codes.{coded_prot}
-use Rattle.mig_base.specs.Ranges.{pages_of}
+use Rattle.foundation.specs.Ranges.{pages_of}
 use Rattle.mig_base.specs.Pages.{set_range, remove_range, moved_range}
 use Rattle.mig_base.specs.Bytes.{page_at, contents, overwrite, low_bytes}
 use Rattle.mig_base.specs.Flat.{Memory, reply_of}

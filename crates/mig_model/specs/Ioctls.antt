@@ -5,19 +5,21 @@ use Rattle.std.specs.Prelude.{ℕ, zero, suc, ◌+◌, ◌*◌, ◌/◌, ◌%◌
 use Rattle.std.specs.Ordering.{nat_cmp}
 use Rattle.std.specs.FinMap.{FinMap, get, insert, contains_key}
 use Rattle.std.specs.FinSet.{contains}
-use Rattle.mig_base.specs.declared.TheConstants.{PAGE_SIZE, LOW, HIGH}
+use Rattle.foundation.specs.declared.TheConstants.{PAGE_SIZE}
+use Rattle.mig_base.specs.declared.TheConstants.{LOW, HIGH}
 use Rattle.mig_base.specs.declared.Prot.{Prot}
 use Rattle.mig_base.specs.declared.command.Errno.{Errno}
 use Rattle.mig_base.specs.declared.command.Errno.TheVariants.{Enoent, Eagain, Eexist, Einval}
 use Rattle.mig_base.specs.declared.wake.Wake.{Wake}
 use Rattle.mig_base.specs.declared.wake.Wake.TheVariants.{Nobody, Range}
 use Rattle.mig_base.specs.Codes.{prot_number}
-use Rattle.mig_base.specs.Bits.{is_one}
+use Rattle.foundation.specs.Bits.{is_one}
 use Rattle.mig_base.specs.Bytes.{zero_page}
-use Rattle.mig_base.specs.Ranges.{in_range, least_below, none_below}
+use Rattle.foundation.specs.Ranges.{in_range, least_below, none_below}
 use Rattle.mig_base.specs.Sets.{without, pages_where}
-use Rattle.mig_base.specs.Tests.{same_bool, is_every, first_holding}
-use Rattle.mig_base.specs.Userfault.{Object, Mode, enabled_with, has_modes, is_registered, registered_where, unregistered, next_message, message_read, changing}
+use Rattle.foundation.specs.Tests.{same_bool, is_every, first_holding}
+use Rattle.foundation.specs.Modes.{Mode}
+use Rattle.mig_base.specs.Userfault.{Object, enabled_with, has_modes, is_registered, registered_where, unregistered, next_message, message_read, changing}
 use Rattle.mig_model.specs.Space.{Space}
 
 -- whether two pages are mapped with one protection

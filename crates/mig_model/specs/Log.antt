@@ -6,7 +6,7 @@ use Rattle.std.specs.FinSet as finset
 use Rattle.std.specs.FinSet.{FinSet, contains}
 use Rattle.mig_base.specs.declared.TheConstants.{HIGH_PAGE}
 use Rattle.mig_base.specs.declared.message.Message.{Message}
-use Rattle.mig_base.specs.Ranges.{least_below}
+use Rattle.foundation.specs.Ranges.{least_below}
 use Rattle.mig_base.specs.Sets.{pages_where, with_range, without}
 use Rattle.mig_model.specs.Space.{Space}
 use Rattle.mig_model.specs.Guest.{Fault, held_after, rest_held, is_changed_by, is_present}

@@ -1,7 +1,7 @@
 -- What a step of a node gives: its effect, the frames that it sends and the node after it, or why it is refused; and the words for
 -- lists of refusals and for contracts of calls.
 use Rattle.std.specs.Prelude.{◌≡◌, ◌⊎◌, ℕ, ◌-◌, ◌^◌, ◌||◌, not, nat_lt, Bool, true, false, if◌then◌else◌, Option, Some, None, Result, Ok, Err, IsOk, List, [], ◌∷◌}
-use Rattle.mig_base.specs.Tests.{first_by}
+use Rattle.foundation.specs.Tests.{first_by}
 use Rattle.mig_base.specs.declared.effect.Effect.{Effect}
 use Rattle.mig_base.specs.declared.refusal.Refusal.{Refusal}
 use Rattle.mig_model.specs.Wire.{Frame}

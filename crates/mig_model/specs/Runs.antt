@@ -1,4 +1,4 @@
--- Runs that may be short of memory: a step that needs memory and gets none answers NoMemory, and changes nothing.
+-- Runs that may be short of memory: a step that needs memory and gets none returns NoMemory, and changes nothing.
 use Rattle.std.specs.Prelude.{◌≡◌, ◌⊎◌, ◌&&◌, not, Bool, true, false, if◌then◌else◌, Result, Ok, Err, List, [], ◌∷◌}
 use Rattle.mig_base.specs.declared.effect.Effect.{Effect}
 use Rattle.mig_base.specs.declared.refusal.Refusal.{Refusal}
@@ -16,7 +16,7 @@ needs_memory (Step.Notice side) = false
 needs_memory Step.Serve = false
 needs_memory step = true
 
--- the refusals that come after NoMemory: a Deliver needs memory to read the frame, and sees only then that the frame has to wait
+-- the refusals that come after NoMemory: a Deliver needs memory to read the frame, and sees only then that the frame must wait
 abbrev pub comes_later : Step → Refusal → Bool
 comes_later (Step.Deliver n) Refusal.InstallFirst = true
 comes_later (Step.Deliver n) Refusal.UrgentFirst = true
@@ -34,7 +34,7 @@ abbrev pub is_move : Effect → Bool
 is_move (Effect.Moved n) = true
 is_move effect = false
 
--- whether a step may answer NoMemory where it would give this answer with enough memory
+-- whether a step may return NoMemory where it would give this answer with enough memory
 abbrev pub may_lack : Step → Outcome → Bool
 may_lack step (Ok effect) = needs_memory step && not (is_delivery step && is_move effect)
 may_lack step (Err refusal) = comes_later step refusal
@@ -57,7 +57,7 @@ abbrev pub is_lacking : Outcome → Bool
 is_lacking (Err Refusal.NoMemory) = true
 is_lacking result = false
 
--- the steps of a run that did not answer NoMemory
+-- the steps of a run that did not return NoMemory
 abbrev pub steps_made : List Step → List Outcome → List Step
 steps_made [] results = []
 steps_made (step ∷ steps) [] = []

@@ -11,7 +11,8 @@ use Rattle.mig_base.specs.declared.command.Command.{Command}
 use Rattle.mig_base.specs.declared.phase.Received.{Received}
 use Rattle.mig_base.specs.declared.phase.SourcePhase.{SourcePhase}
 use Rattle.mig_base.specs.Bytes.{contents}
-use Rattle.mig_base.specs.Userfault.{Noted, Mode, fresh_object, enabled_with}
+use Rattle.foundation.specs.Modes.{Mode}
+use Rattle.mig_base.specs.Userfault.{Noted, fresh_object, enabled_with}
 use Rattle.mig_model.specs.Space.{Space, fresh_space}
 use Rattle.mig_model.specs.Ioctls.{all_features, registered_in, protected_in}
 use Rattle.mig_model.specs.Cpus.{Cpus, idle_processors, outstanding}

@@ -3,10 +3,11 @@
 use Rattle.std.specs.Prelude.{ℕ, ◌+◌, ◌*◌, ◌==◌, ◌&&◌, ◌||◌, not, is_some, ok_or, if◌then◌else◌, Result, [], ◌∷◌}
 use Rattle.std.specs.FinSet as finset
 use Rattle.std.specs.FinSet.{contains}
-use Rattle.mig_base.specs.Ranges.{lesser}
+use Rattle.foundation.specs.Ranges.{lesser}
 use Rattle.mig_base.specs.Sets.{run_length}
 use Rattle.mig_base.specs.Acts.{act_effect}
-use Rattle.mig_base.specs.declared.TheConstants.{PAGE_SIZE, MAX_RUN}
+use Rattle.foundation.specs.declared.TheConstants.{PAGE_SIZE}
+use Rattle.mig_base.specs.declared.TheConstants.{MAX_RUN}
 use Rattle.mig_base.specs.declared.effect.Effect.{Effect}
 use Rattle.mig_base.specs.declared.refusal.Refusal.{Refusal}
 use Rattle.mig_base.specs.declared.schedule.Side.{Side}

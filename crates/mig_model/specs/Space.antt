@@ -3,7 +3,8 @@ use Rattle.std.specs.Prelude.{◌≡◌, ℕ, ◌+◌, ◌-◌, ◌*◌, ◌/◌
 use Rattle.std.specs.Ordering.{nat_cmp}
 use Rattle.std.specs.FinMap.{contains_key}
 use Rattle.std.specs.FinSet.{FinSet, empty, contains}
-use Rattle.mig_base.specs.declared.TheConstants.{PAGE_SIZE, HIGH}
+use Rattle.foundation.specs.declared.TheConstants.{PAGE_SIZE}
+use Rattle.mig_base.specs.declared.TheConstants.{HIGH}
 use Rattle.mig_base.specs.declared.command.Errno.TheVariants.{Enomem}
 use Rattle.mig_base.specs.declared.command.Command.{Command}
 use Rattle.mig_base.specs.declared.command.Command.TheVariants.{Mmap, Munmap, Mremap, DontNeed}
@@ -14,7 +15,7 @@ use Rattle.mig_base.specs.declared.command.Access.TheVariants.{Answered, Missing
 use Rattle.mig_base.specs.declared.message.Message.{Message}
 use Rattle.mig_base.specs.declared.message.Message.TheVariants.{Remap, Remove, Unmap}
 use Rattle.mig_base.specs.Commands.{is_store, page_of}
-use Rattle.mig_base.specs.Ranges.{lesser, pages_of, rounded}
+use Rattle.foundation.specs.Ranges.{lesser, pages_of, rounded}
 use Rattle.mig_base.specs.Sets.{without, moved_set}
 use Rattle.mig_base.specs.Flat.{reply_of}
 use Rattle.mig_model.specs.Host.{Host, bare_host, memory, host_after, IsSound}

@@ -1,5 +1,5 @@
 //! The handlers use the calls of the userfault object. Where a step registers pages, or puts or protects a page, the row of that call in
-//! `specs/Ioctls.antt` answers no error, leaves the space that the machine has, and wakes the processors that the machine wakes. Each law
+//! `specs/Ioctls.antt` returns no error, leaves the space that the machine has, and wakes the processors that the machine wakes. Each law
 //! is a function with an empty body, whose contract is the law.
 
 ghost use Rattle.std.specs.Prelude.{List};

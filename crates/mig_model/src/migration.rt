@@ -63,10 +63,10 @@ pub fn what_a_world_tells()
         new_world_with cpus epoch rounds ≡ Ok world → IsReached world }
 {}
 
-/// A run that may be short of memory: instead of its effect a step may answer NoMemory and change nothing, and so may a Deliver whose
+/// A run that may be short of memory: instead of its effect a step may return NoMemory and change nothing, and so may a Deliver whose
 /// frame would have to wait. Without its NoMemory steps such a run is a run with enough memory, with the same answers and the same world
 /// at the end, so every law about a reached world applies to it. With enough memory each step does what the machine does, which never
-/// answers NoMemory. Break, Notice and Serve do so even if memory is short.
+/// returns NoMemory. Break, Notice and Serve do so even if memory is short.
 pub fn a_run_short_of_memory()
     ensures world { (world new : World) (steps : List Step) (results : List Outcome) →
         IsRun world steps results new → new ≡ after_steps world (steps_made steps results) }
@@ -164,7 +164,7 @@ pub fn no_page_is_installed_over_another()
 {}
 
 /// No frame is refused, after any number of resumptions: while the link is up the first frame of each wire is in place, of the right
-/// epoch, and fits. A Deliver that completes it is refused only if it has to wait, and then for that reason. A Recv lists only pages
+/// epoch, and fits. A Deliver that completes it is refused only if it must wait, and then for that reason. A Recv lists only pages
 /// that the source has.
 pub fn no_frame_is_refused()
     ensures { (world : World) → IsReached world → TakesFrames world }
@@ -225,7 +225,7 @@ pub fn pages_that_remain()
 
 /// A delivery that completes the first frame of its wire takes exactly that frame. The node that takes it, as it is then, and the frames
 /// that it answers are a function of the node as it was and of the frame with its epoch: nothing passes between the nodes but by the
-/// wires. A delivery that completes no frame takes none: only the number of bytes that have come changes.
+/// wires. A delivery that completes no frame takes none: only the number of bytes that have arrived changes.
 pub fn a_delivery_is_a_function()
     ensures { (world : World) (n : ℕ) (sent : Sent) (rest : List Sent) →
         DeliversFirst world n sent rest }

@@ -46,7 +46,7 @@ const LOAD: Command = Command::Load {
     width: 8,
 };
 
-/// A processor that sleeps at the source has to try again at the destination, and sleeps there again.
+/// A processor that sleeps at the source must try again at the destination, and sleeps there again.
 static ASLEEP: [Row; 15] = [
     (Map(0, 4096), Replied(0, At(0x10000))),
     (Start, Started(1)),

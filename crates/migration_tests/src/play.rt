@@ -27,7 +27,7 @@ pub type Parts<'a> = &'a [&'a [Row]];
 /// What both show at first, what happens to a copy, what happens to the world, and what the copy shows then.
 pub type Ways<'a> = (&'a [Row], &'a [Row], &'a [Row], &'a [Row]);
 
-/// What a refused step has to leave.
+/// What a refused step must leave.
 #[derive(Clone, Copy, PartialEq, Eq)]
 pub struct Picture {
     phase: WorldPhase,

@@ -19,7 +19,7 @@ pub enum SourceCall {
     Push(PageNo),
     PushUrgent(PageNo),
     Notice,
-    NextEpoch,
+    Resume,
 }
 
 /// A call of either node. A frame comes with its epoch.
@@ -93,7 +93,7 @@ impl<'a> Unread<'a> {
             b'v' => Some(SourceCall::Push(self.next_page()?)),
             b'x' => Some(SourceCall::PushUrgent(self.next_page()?)),
             b'n' => Some(SourceCall::Notice),
-            b'k' => Some(SourceCall::NextEpoch),
+            b'k' => Some(SourceCall::Resume),
             _ => None,
         }
     }

@@ -1,5 +1,4 @@
-//! Tests of the two nodes of a migration and of the recovery from a broken channel: the calls of `precopy`, `fault_handler` and `recovery`;
-//! and a program that makes calls of both nodes.
+//! Tests of the two nodes of a migration, the calls of `precopy` and `fault_handler`; and a program that makes calls of both nodes.
 //!
 //! A test is a table of calls with the answers that are wanted, worked out by hand. One loop for each node plays a table; where a call
 //! is refused it looks that the node is as before, and where memory was refused it makes the call again. So a test passes whichever
@@ -11,16 +10,15 @@
 //!
 //! | Letter | Call |
 //! |---|---|
-//! | `t` frame | `Destination::take` |
+//! | `t` frame | `Destination::take`, after `answers` |
 //! | `u` frame | `Destination::take_urgent` |
 //! | `i` | `Destination::install` |
 //! | `p` | `Destination::pause` |
 //! | `m` | the first byte of each of 16 pages of the destination, or `-` |
-//! | `b` frame | `Source::back`, and `recovery::rebuild` for a Recv that is accepted |
+//! | `b` frame | `Source::take`, after `answers` |
 //! | `s`, `w`, `e`, `r` | `Source::start`, `switch`, `end`, `serve` |
 //! | `v` page, `x` page | `Source::push`, `push_urgent`, in the source's epoch |
-//! | `n` | `recovery::notice_source` |
-//! | `k` | `Source::set_epoch`, to the next epoch |
+//! | `n`, `k` | `Source::notice`, `resume` |
 //!
 //! Both nodes have two processors. The source has 16 pages mapped from 0x10 on, and stored to each second one. The exit status is 1
 //! where standard input has anything else, or where memory runs out. `bench/compare/takes.py` draws calls and compares the answers; `stdin`
@@ -34,8 +32,6 @@ mod destinations;
 mod frames;
 #[cfg(test)]
 mod ranges;
-#[cfg(test)]
-mod recoveries;
 #[cfg(test)]
 mod same;
 #[cfg(test)]

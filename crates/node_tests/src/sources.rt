@@ -5,5 +5,6 @@ mod breaks;
 pub mod calls;
 mod phases;
 mod play;
+mod rebuilds;
 mod rounds;
 mod runs;

@@ -8,9 +8,9 @@ use Rattle.std.proofs.lemmas.List.{append_cancel_right}
 use Rattle.std.proofs.lemmas.Nat.{from_be_bytes-to_be_bytes_4}
 use Rattle.mig_base.proofs.ByteLemmas.{length-zero_page}
 use Rattle.mig_base.specs.Bytes.{zero_page}
-use Rattle.mig_base.specs.declared.TheConstants.{PAGE_SIZE}
-use Rattle.frame_texts.specs.Texts.{header_text, text}
-use Rattle.frame_texts.specs.Texts.Version.{Two}
+use Rattle.foundation.specs.declared.TheConstants.{PAGE_SIZE}
+use Rattle.page_stream.specs.Texts.{header_text, text}
+use Rattle.page_stream.specs.Texts.Version.{Two}
 use Rattle.page_stream.proofs.FrameTexts.{page_long, run_long}
 use Rattle.nodes.specs.Heads.{IsHeadOfPage, IsHeadOfRun, IsPageHead, IsRunHead}
 

@@ -4,9 +4,9 @@ use Rattle.std.specs.Ordering.{nat_cmp}
 use Rattle.std.specs.FinMap.{FinMap, get}
 use Rattle.std.proofs.lemmas.List.{length-replicate}
 use Rattle.mig_base.specs.Bytes.{zero_page}
-use Rattle.mig_base.specs.Ranges.{in_range}
+use Rattle.foundation.specs.Ranges.{in_range}
 use Rattle.mig_base.proofs.PageLemmas.{same_pages}
-use Rattle.mig_base.proofs.RangeLemmas.{ranges}
+use Rattle.foundation.proofs.RangeLemmas.{ranges}
 use Rattle.mig_model.specs.Wire.{kept_with, run_copies}
 use Rattle.fault_handler.proofs.KeptLemmas.{get-run_copies}
 use Rattle.nodes.specs.DestinationCalls.{zeros_taken}

@@ -5,9 +5,9 @@ use Rattle.std.proofs.lemmas.List.{length-append}
 use Rattle.mig_base.proofs.ByteLemmas.{length-zero_page}
 use Rattle.mig_base.specs.Bytes.{zero_page}
 use Rattle.mig_model.specs.Wire.{Frame, Sent}
-use Rattle.frame_texts.proofs.OneText.{same_text}
-use Rattle.frame_texts.specs.Texts.{IsEncodable, text}
-use Rattle.frame_texts.specs.Texts.Version.{Two}
+use Rattle.page_stream.proofs.OneText.{same_text}
+use Rattle.page_stream.specs.Texts.{IsEncodable, text}
+use Rattle.page_stream.specs.Texts.Version.{Two}
 use Rattle.frame_decoder.proofs.Unique.{read_back}
 use Rattle.frame_decoder.specs.Streams.{IsTextOf}
 use Rattle.frame_decoder.specs.Versions.{version_of}

@@ -3,13 +3,13 @@ use Rattle.std.proofs.lemmas.Bool.Decides.{nat_tests}
 use Rattle.std.proofs.Common.{◌≡◌, ◌⊎◌, inl, inr, ℕ, ◌==◌, not, arith, if◌then◌else◌, Bool, true, false, Option, Some, None, List, [], ◌∷◌, refl, sym, ap, ◌∙◌}
 use Rattle.std.specs.Prelude.{Result, Ok, Err}
 use Rattle.mig_base.specs.Sets.{run_length}
-use Rattle.mig_base.specs.Tests.{first_holding}
+use Rattle.foundation.specs.Tests.{first_holding}
 use Rattle.std.proofs.lemmas.Bool.{false≢true}
 use Rattle.std.proofs.lemmas.Option.{none-some}
+use Rattle.std.specs.Option.{option_map}
 use Rattle.mig_base.specs.declared.effect.Effect.{Effect}
-use Rattle.mig_base.specs.declared.fault.BackFault.{BackFault}
 use Rattle.mig_base.specs.declared.refusal.Refusal.{Refusal}
-use Rattle.mig_model.specs.Faults.{back_fault, is_in_place_back}
+use Rattle.mig_model.specs.Faults.{is_in_place_back}
 use Rattle.mig_model.specs.GuestSteps as guest
 use Rattle.mig_model.specs.GuestSteps.{Tried}
 use Rattle.mig_model.specs.NodeSteps.{Acted, Sends, acted, and_then}
@@ -20,7 +20,9 @@ use Rattle.mig_model.specs.Wire.{Sent, wire_with}
 use Rattle.mig_laws.specs.Sides as sides
 use Rattle.mig_laws.specs.Sides.{Did, Line}
 use Rattle.nodes.specs.Lines.{AreSourceLines, IsLoggedBack, IsSourceLine, is_handed_out}
-use Rattle.nodes.specs.Faults.{recv_fault, of_back, returning_fault}
+use Rattle.precopy.specs.Back.{is_bad_recv}
+use Rattle.precopy.specs.declared.fault.SourceFault.{SourceFault}
+use Rattle.nodes.specs.Faults.{of_source, returning_fault}
 use Rattle.nodes.specs.Nodes.{PostingSource}
 use Rattle.nodes.specs.SourceCalls.{IsReturned, acts, answer, hands_out, posts, tries}
 use Rattle.nodes.specs.Traces.{source_step}
@@ -110,21 +112,16 @@ step-line SourceStep.Resume old effect new is = posts-line _ old (source.resume 
 
 -- A frame that comes back
 
-came-back : (o : Option BackFault) (rest : Option FrameFault) → ◌≡◌ {A = Option FrameFault} (elim o [ None ↦ rest | Some fault ↦ Some (of_back fault) ]) None → o ≡ None
-came-back None rest is = refl
-came-back (Some fault) rest is = absurd (none-some (of_back fault) (sym is))
-
-second-of : (one other : Bool) → first_holding ((one, BackFault.OutOfPlace) ∷ (other, BackFault.StaleEpoch) ∷ []) ≡ None → other ≡ false
-second-of true other is = absurd (none-some BackFault.OutOfPlace (sym is))
-second-of false true is = absurd (none-some BackFault.StaleEpoch (sym is))
-second-of false false is = refl
+second-of : (one other third : Bool) → option_map of_source (first_holding ((one, SourceFault.OutOfPlace) ∷ (other, SourceFault.StaleEpoch) ∷ (third, SourceFault.BadOwed) ∷ [])) ≡ None → other ≡ false
+second-of true other third is = absurd (none-some FrameFault.OutOfPlace (sym is))
+second-of false true third is = absurd (none-some FrameFault.StaleEpoch (sym is))
+second-of false false third is = refl
 
 same-epoch : (one other : ℕ) → not (one == other) ≡ false → one ≡ other
 same-epoch one other is = grind (arith, nat_tests)
 
 pub own-epoch : (node : Source) (sent : Sent) → returning_fault node sent.epoch sent.frame ≡ None → sent.epoch ≡ node.epoch
-own-epoch node sent accepted =
-    same-epoch sent.epoch node.epoch (second-of (not (is_in_place_back node sent.frame)) (not (sent.epoch == node.epoch)) (came-back (back_fault node sent.epoch sent.frame) (recv_fault node sent.frame) accepted))
+own-epoch node sent accepted = same-epoch sent.epoch node.epoch (second-of (not (is_in_place_back node sent.frame)) (not (sent.epoch == node.epoch)) (is_bad_recv node sent.frame) accepted)
 
 pub back-line : (bytes : List ℕ) (old : PostingSource) (effect : Effect) (new : PostingSource) → IsReturned bytes old effect new → IsLoggedBack bytes old effect new
 back-line bytes old effect new is =

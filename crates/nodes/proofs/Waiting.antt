@@ -1,26 +1,18 @@
--- Frames that wait after others, and faults by their names.
-use Rattle.std.proofs.Common.{◌≡◌, ◌⊎◌, ℕ, List, [], ◌∷◌, ◌++◌, Option, Some, None, inl, inr, refl, sym, ap, ◌∙◌}
+-- Faults by their names, and frames that wait.
+use Rattle.std.proofs.Common.{◌≡◌, ◌⊎◌, ℕ, Option, Some, None, inl, inr, sym, ap, ◌∙◌}
 use Rattle.std.specs.Prelude.{unwrap_or}
 use Rattle.std.specs.Option.{option_map}
-use Rattle.mig_base.specs.declared.fault.TakeFault.{TakeFault}
 use Rattle.mig_model.specs.Destination.{Destination, destination_answers, destination_took}
-use Rattle.mig_model.specs.Wire.{Frame, Sent, Wire, sending, wire_with}
+use Rattle.mig_model.specs.Wire.{Frame, Wire, wire_with}
 use Rattle.nodes.specs.DestinationCalls.{taken}
-use Rattle.nodes.specs.Faults.{of_take}
 use Rattle.nodes.specs.Nodes.{PostingDestination}
 use Rattle.nodes.specs.declared.fault.FrameFault.{FrameFault}
 
-sending-both : (wire : List Sent) (epoch : ℕ) (frames more : List Frame) → sending (sending wire epoch frames) epoch more ≡ sending wire epoch (frames ++ more)
-sending-both wire epoch [] more = refl
-sending-both wire epoch (frame ∷ frames) more = sending-both (wire ++ record { epoch = epoch; frame = frame } ∷ []) epoch frames more
-
-pub wire-both : (wire : Wire) (epoch : ℕ) (frames more : List Frame) → wire_with (wire_with wire epoch frames) epoch more ≡ wire_with wire epoch (frames ++ more)
-wire-both wire epoch frames more = λ i. record wire { frames = sending-both wire.frames epoch frames more i }
-
 -- the fault of a frame that is not taken, by its name
-pub named : (found : Option TakeFault) (fault : TakeFault) (name : FrameFault) → fault ≡ unwrap_or found TakeFault.NoMemory → name ≡ of_take fault → (name ≡ FrameFault.NoMemory) ⊎ (option_map of_take found ≡ Some name)
-named None fault name is by_name = inl (by_name ∙ ap of_take is)
-named (Some reason) fault name is by_name = inr (ap (λ (f : FrameFault). Some f) (sym (by_name ∙ ap of_take is)))
+pub named : {Fault : Type 0} (name_of : Fault → FrameFault) (lack : Fault) (found : Option Fault) (fault : Fault) (name : FrameFault) → name_of lack ≡ FrameFault.NoMemory → fault ≡ unwrap_or found lack → name ≡ name_of fault
+    → (name ≡ FrameFault.NoMemory) ⊎ (option_map name_of found ≡ Some name)
+named name_of lack None fault name memory is by_name = inl (by_name ∙ ap name_of is ∙ memory)
+named name_of lack (Some reason) fault name memory is by_name = inr (ap (λ (f : FrameFault). Some f) (sym (by_name ∙ ap name_of is)))
 
 -- a destination with the wire of the frames that wait
 abbrev pub posting : Destination → Wire → PostingDestination

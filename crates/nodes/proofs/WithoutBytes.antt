@@ -2,7 +2,7 @@
 use Rattle.std.proofs.Common.{◌≡◌, ℕ, Bool, true, if◌then◌else◌, List, [], ◌∷◌, length, map, replicate, refl, sym, ap}
 use Rattle.std.proofs.lemmas.Simd.{splat_is_map}
 use Rattle.mig_base.specs.Bytes.{zero_page}
-use Rattle.mig_base.specs.declared.TheConstants.{PAGE_SIZE}
+use Rattle.foundation.specs.declared.TheConstants.{PAGE_SIZE}
 use Rattle.mig_model.specs.Bounds.{ArePageBytes}
 use Rattle.mig_model.specs.Wire.{Frame, is_zeros}
 use Rattle.mig_model.specs.Wire.Frame.{Page, Zero}

@@ -4,8 +4,8 @@ use Rattle.std.specs.List.{flat_map}
 use Rattle.mig_base.specs.declared.TheConstants.{HIGH_PAGE, MAX_RUN}
 use Rattle.mig_model.specs.Bounds.{IsPage}
 use Rattle.mig_model.specs.Wire.{Frame}
-use Rattle.frame_texts.specs.Texts.{HasWholePages, text}
-use Rattle.frame_texts.specs.Texts.Version.{Two}
+use Rattle.page_stream.specs.Texts.{HasWholePages, text}
+use Rattle.page_stream.specs.Texts.Version.{Two}
 
 -- the bytes, and after them those of the page, are the text of a Page: its head
 abbrev pub IsPageHead : List ℕ → ℕ → ℕ → Type 0

@@ -1,4 +1,4 @@
--- A node of its own: the machine's node, and the frames that it has sent and that nobody has taken yet.
+-- A node of its own: the machine's node, and the frames that it has sent and that were not collected yet.
 use Rattle.std.specs.Prelude.{ℕ, List, refl}
 use Rattle.std.specs.Coded.{Coded, code_by, coded×, coded_ℕ, coded_list}
 use Rattle.mig_model.specs.Destination.{Destination}

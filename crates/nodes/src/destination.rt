@@ -20,7 +20,7 @@ use std::alloc::Global;
 use vcpu::NewFault;
 use wires::Wire;
 
-/// A destination, and the frames that it has sent back and that nobody has taken yet.
+/// A destination, and the frames that it has sent back and that were not collected yet.
 pub type DestinationNode = Posting<Destination>;
 
 impl DestinationNode {

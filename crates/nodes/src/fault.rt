@@ -3,7 +3,8 @@
 ghost use Rattle.std.specs.Prelude.{◌≡◌};
 ghost use Rattle.nodes.specs.Faults as machine;
 
-use mig_base::fault::{BackFault, RebuildFault, TakeFault};
+use mig_base::fault::TakeFault;
+use precopy::SourceFault;
 use thiserror::Error;
 
 /// Why a node does not take a frame. Nothing is changed.
@@ -50,22 +51,13 @@ pub(crate) fn of_take(fault: TakeFault) -> FrameFault
 }
 
 /// The fault of a source.
-pub(crate) fn of_back(fault: BackFault) -> FrameFault
-    ensures { result ≡ machine.of_back fault }
+pub(crate) fn of_source(fault: SourceFault) -> FrameFault
+    ensures { result ≡ machine.of_source fault }
 {
     match fault {
-        BackFault::OutOfPlace => FrameFault::OutOfPlace,
-        BackFault::StaleEpoch => FrameFault::StaleEpoch,
-        BackFault::NoMemory => FrameFault::NoMemory,
-    }
-}
-
-/// The fault of a source that does not resume from a Recv.
-pub(crate) fn of_rebuild(fault: RebuildFault) -> FrameFault
-    ensures { result ≡ machine.of_rebuild fault }
-{
-    match fault {
-        RebuildFault::BadOwed => FrameFault::BadOwed,
-        RebuildFault::NoMemory => FrameFault::NoMemory,
+        SourceFault::OutOfPlace => FrameFault::OutOfPlace,
+        SourceFault::StaleEpoch => FrameFault::StaleEpoch,
+        SourceFault::BadOwed => FrameFault::BadOwed,
+        SourceFault::NoMemory => FrameFault::NoMemory,
     }
 }

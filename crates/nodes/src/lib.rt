@@ -1,4 +1,4 @@
-//! A source and a destination of their own: each in a process of its own, with the frames that it has sent and that nobody has taken yet.
+//! A source and a destination of their own: each in its own process, with the frames that it has sent and that were not collected yet.
 //!
 //! A [`Posting`] has the node of `precopy` or `fault_handler`, and a wire; a [`Traced`] has also the lines of its steps. Each step is the
 //! node's own. The frames that it sends wait on the wire, in version 2 of the format, until [`SourceNode::drop_sent`] or

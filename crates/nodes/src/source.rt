@@ -21,7 +21,7 @@ use std::alloc::Global;
 use vcpu::NewFault;
 use wires::Wire;
 
-/// A source, and the frames that it has sent and that nobody has taken yet.
+/// A source, and the frames that it has sent and that were not collected yet.
 pub type SourceNode = Posting<Source>;
 
 impl SourceNode {

@@ -4,7 +4,7 @@ use Rattle.std.specs.Ordering.{nat_cmp}
 use Rattle.std.specs.FinSet.{FinSet, contains, insert, empty, contains-empty}
 use Rattle.std.proofs.lemmas.Bool.Decides.{nat_tests}
 use Rattle.mig_base.proofs.SetLemmas.{member_inserted}
-use Rattle.mig_base.proofs.TestLemmas.{none_below_zero, all_below}
+use Rattle.foundation.proofs.TestLemmas.{none_below_zero, all_below}
 use Rattle.owed_pages.specs.Tables.{Place, page_number}
 use Rattle.owed_pages.proofs.TableLemmas.{past_places}
 

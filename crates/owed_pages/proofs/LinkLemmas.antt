@@ -8,9 +8,9 @@ use Rattle.std.specs.FinMap.{FinMap, get, empty, insert, remove, contains_key, l
 use Rattle.std.proofs.lemmas.Bool.Decides.{nat_tests}
 use Rattle.std.proofs.lemmas.Bool.{eq-eqb, cases_lt, ne_eqb}
 use Rattle.std.proofs.lemmas.Option.{same_Some}
-use Rattle.mig_base.proofs.RangeLemmas.{in_range-true, count_below-few, in_range-none, in_range_bounds, in_range-out, in_range-one}
+use Rattle.foundation.proofs.RangeLemmas.{in_range-true, count_below-few, in_range-none, in_range_bounds, in_range-out, in_range-one}
 use Rattle.mig_base.specs.declared.TheConstants.{HIGH_PAGE}
-use Rattle.mig_base.specs.Ranges.{in_range, count_below}
+use Rattle.foundation.specs.Ranges.{in_range, count_below}
 use Rattle.mig_base.proofs.PageLemmas.{same_pages, get-map_below, count_below-contains_key}
 use Rattle.mig_base.proofs.PlaceLemmas.{place_inside}
 use Rattle.owed_pages.specs.Tables.{Place, page_number, moved_number}

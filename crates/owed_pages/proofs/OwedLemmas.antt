@@ -10,12 +10,12 @@ use Rattle.std.proofs.lemmas.Bool.Decides.{nat_tests}
 use Rattle.std.proofs.lemmas.Bool.{eq-eqb, ne_eqb, lt-ltb}
 use Rattle.std.proofs.lemmas.Option.{same_Some}
 use Rattle.mig_base.specs.declared.TheConstants.{HIGH_PAGE}
-use Rattle.mig_base.specs.Ranges.{in_range}
+use Rattle.foundation.specs.Ranges.{in_range}
 use Rattle.mig_base.specs.Pages.{map_below, put, remove_range, moved_range}
 use Rattle.mig_base.proofs.PageLemmas.{get-map_below, get-remove_range, get-moved_range}
-use Rattle.mig_base.proofs.RangeLemmas.{least_below-is, least_below-none, in_range_bounds, in_range-out}
+use Rattle.foundation.proofs.RangeLemmas.{least_below-is, least_below-none, in_range_bounds, in_range-out}
 use Rattle.mig_base.proofs.SetLemmas.{same_members, member_below}
-use Rattle.mig_base.proofs.TestLemmas.{all_below}
+use Rattle.foundation.proofs.TestLemmas.{all_below}
 use Rattle.owed_pages.specs.Tables.{Place, page_number, moved_number}
 use Rattle.owed_pages.specs.Owed.{pairs_of, AreLinks, owes_to, home, origins, own_places}
 use Rattle.owed_pages.proofs.LinkLemmas.{get-pairs_of, pairs_of-is, none_past, number_below, none_some}

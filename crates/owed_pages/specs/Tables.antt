@@ -3,7 +3,7 @@ use Rattle.std.specs.Prelude.{ℕ, ◌+◌, ◌-◌, ◌/◌, ◌%◌, if◌then
 use Rattle.std.specs.declared.boxed.Box.{Box}
 use Rattle.std.specs.declared.alloc.Global.{Global}
 use Rattle.mig_base.specs.declared.chunk.TheConstants.{CHUNK}
-use Rattle.mig_base.specs.Ranges.{in_range}
+use Rattle.foundation.specs.Ranges.{in_range}
 -- whether a place has a leaf
 pub use Rattle.mig_base.specs.Places.{is_place}
 -- whether the place of a page has a leaf

@@ -14,15 +14,15 @@ use Rattle.mig_base.specs.declared.Prot.{Prot}
 use Rattle.mig_base.specs.declared.Prot.TheVariants.{NoAccess}
 use Rattle.mig_base.specs.declared.TheConstants.{HIGH_PAGE}
 use Rattle.mig_base.specs.Sets.{pages_where, run_length}
-use Rattle.mig_base.proofs.RangeLemmas.{count_below-few}
+use Rattle.foundation.proofs.RangeLemmas.{count_below-few}
 use Rattle.mig_base.proofs.SetLemmas.{member_below}
-use Rattle.mig_base.proofs.TestLemmas.{and_false}
+use Rattle.foundation.proofs.TestLemmas.{and_false}
 use Rattle.mig_model.specs.Ioctls.{same_protection}
 use Rattle.mig_model.proofs.memory.IoctlLemmas.{same_prot-self}
 use Rattle.mig_model.specs.Lengths.{area_count, begins_area}
-use Rattle.frame_texts.specs.Texts.{area_at, areas_of, list_below}
-use Rattle.frame_texts.proofs.OneArea.{none_listed}
-use Rattle.frame_texts.proofs.RunsAndAreas.{same_prot_tells}
+use Rattle.page_stream.specs.Texts.{area_at, areas_of, list_below}
+use Rattle.page_stream.proofs.OneArea.{none_listed}
+use Rattle.page_stream.proofs.RunsAndAreas.{same_prot_tells}
 use Rattle.page_stream.proofs.FirstLemmas.{list_below-cons, list_below-same, run_length-is}
 use Rattle.page_stream.proofs.LengthLemmas.{areas_counted, begins_by, begins_by-same, begins_more, no_prot, nothing_begins}
 

@@ -4,11 +4,11 @@ use Rattle.std.specs.Ordering.{nat_cmp}
 use Rattle.std.specs.FinSet.{FinSet, contains}
 use Rattle.std.proofs.lemmas.Bool.{cases_lt, false_from_ne_true}
 use Rattle.std.proofs.lemmas.List.{append-nil}
-use Rattle.mig_base.specs.Ranges.{count_below}
+use Rattle.foundation.specs.Ranges.{count_below}
 use Rattle.mig_base.specs.Sets.{run_length}
-use Rattle.mig_base.proofs.TestLemmas.{eqb-above, eqb-self}
-use Rattle.frame_texts.specs.Texts.{list_below}
-use Rattle.frame_texts.proofs.OneArea.{none_listed}
+use Rattle.foundation.proofs.TestLemmas.{eqb-above, eqb-self}
+use Rattle.page_stream.specs.Texts.{list_below}
+use Rattle.page_stream.proofs.OneArea.{none_listed}
 
 -- Numbers that pass
 

@@ -6,10 +6,10 @@ use Rattle.std.proofs.lemmas.List.{length-append}
 use Rattle.mig_model.specs.Bounds.{IsFrame}
 use Rattle.mig_model.specs.Lengths.{body_len}
 use Rattle.mig_model.specs.Wire.{Frame}
-use Rattle.frame_texts.specs.Texts.{HasWholePages, body_text, header_text, tag_code, text}
-use Rattle.frame_texts.specs.Texts.Version.{Two}
-use Rattle.frame_texts.proofs.Encodable.{encodable}
-use Rattle.frame_texts.proofs.TextLemmas.{length-text}
+use Rattle.page_stream.specs.Texts.{HasWholePages, body_text, header_text, tag_code, text}
+use Rattle.page_stream.specs.Texts.Version.{Two}
+use Rattle.page_stream.proofs.Encodable.{encodable}
+use Rattle.page_stream.proofs.TextLemmas.{length-text}
 use Rattle.page_stream.specs.Writing.{Puts}
 use Rattle.page_stream.proofs.Puts.{puts_then}
 

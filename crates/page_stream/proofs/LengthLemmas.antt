@@ -11,9 +11,9 @@ use Rattle.area_map.proofs.ViewLemmas.{get-pages_in}
 use Rattle.mig_base.specs.declared.Area.{Area}
 use Rattle.mig_base.specs.declared.Prot.{Prot}
 use Rattle.mig_base.specs.declared.TheConstants.{HIGH_PAGE}
-use Rattle.mig_base.specs.Ranges.{count_below}
-use Rattle.mig_base.proofs.RangeLemmas.{count_below-constant, count_below-same}
-use Rattle.mig_base.proofs.TestLemmas.{eqb-above, eqb-self}
+use Rattle.foundation.specs.Ranges.{count_below}
+use Rattle.foundation.proofs.RangeLemmas.{count_below-constant, count_below-same}
+use Rattle.foundation.proofs.TestLemmas.{eqb-above, eqb-self}
 use Rattle.mig_model.specs.Ioctls.{same_protection}
 use Rattle.mig_model.proofs.memory.IoctlLemmas.{same_prot-self}
 use Rattle.mig_model.specs.Lengths.{begins_area, area_count}

@@ -1,3 +1,16 @@
+pub mod TextLemmas
+pub mod RunsAndAreas
+pub mod RunsInOrder
+pub mod AreasInOrder
+pub mod OneArea
+pub mod OneText
+pub mod LengthBounds
+pub mod Encodable
+pub mod TextsInFlight
+pub mod PageBytes
+pub mod FrameBounds
+pub mod FrameSteps
+pub mod GoodFrames
 pub mod LengthLemmas
 pub mod FirstLemmas
 pub mod Puts

@@ -6,8 +6,8 @@ use Rattle.std.specs.FinMap.{FinMap, contains_key, get, len}
 use Rattle.mig_base.specs.declared.Prot.{Prot}
 use Rattle.mig_base.specs.declared.TheConstants.{LOW_PAGE, HIGH_PAGE, MAX_PAGES}
 use Rattle.mig_base.specs.declared.command.Command.{Command}
-use Rattle.mig_base.specs.Ranges.{count_below}
-use Rattle.mig_base.proofs.RangeLemmas.{count_below-constant}
+use Rattle.foundation.specs.Ranges.{count_below}
+use Rattle.foundation.proofs.RangeLemmas.{count_below-constant}
 use Rattle.mig_model.specs.Bounds.{ArePageBytes, AreRightAccesses, IsMapping, IsPageBytes}
 use Rattle.page_stream.specs.Rules.{IsProperWait}
 

@@ -9,15 +9,15 @@ use Rattle.std.proofs.lemmas.List.{append-nil, length-append, map-append}
 use Rattle.std.proofs.lemmas.List.Concat.{flat_map-cons}
 use Rattle.mig_base.specs.declared.Run.{Run as PageRun}
 use Rattle.mig_base.specs.declared.TheConstants.{HIGH_PAGE}
-use Rattle.mig_base.specs.Ranges.{in_range}
+use Rattle.foundation.specs.Ranges.{in_range}
 use Rattle.mig_base.specs.Sets.{run_length, without}
 use Rattle.mig_base.specs.PageSets.{IsFirstRun}
-use Rattle.mig_base.proofs.RangeLemmas.{count_below-few, in_range-false_above, ranges}
+use Rattle.foundation.proofs.RangeLemmas.{count_below-few, in_range-false_above, ranges}
 use Rattle.mig_base.proofs.SetLemmas.{member_without}
 use Rattle.mig_model.specs.Lengths.{begins_run, run_count}
-use Rattle.frame_texts.specs.Texts.{list_below, run_at, runs_of, run_text, runs_text}
-use Rattle.frame_texts.proofs.OneArea.{none_listed}
-use Rattle.frame_texts.proofs.TextLemmas.{length-runs, length-runs_of}
+use Rattle.page_stream.specs.Texts.{list_below, run_at, runs_of, run_text, runs_text}
+use Rattle.page_stream.proofs.OneArea.{none_listed}
+use Rattle.page_stream.proofs.TextLemmas.{length-runs, length-runs_of}
 use Rattle.page_stream.specs.Writing.{Puts}
 use Rattle.page_stream.proofs.FirstLemmas.{list_below-cons, run_length-is}
 use Rattle.page_stream.proofs.Puts.{puts_then}

@@ -14,7 +14,7 @@ pub const HEADER_LEN: u64 = 12;
 impl Frame {
     /// The length of its text in bytes, header and body. It makes no text and takes no memory: it walks a set run by run.
     ///
-    /// The length has to fit 64 bits. That of a well-formed frame fits 32.
+    /// The length must fit 64 bits. That of a well-formed frame fits 32.
     pub fn text_len(&self) -> u64
         requires { texts.text_len (frame_of self.now) < 2 ^ 64 }
         ensures { result ≡ texts.text_len (frame_of self.now) }

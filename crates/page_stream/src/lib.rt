@@ -11,12 +11,14 @@
 //! The crate decides nothing about a migration: which node sends a frame and when, and how the other handles it, is for the nodes.
 //!
 //! Contracts see a frame as the machine's (`mig_model`, `specs/Wire.antt`), by `frame_of` of `specs/Frames.antt`. The rules are
-//! `IsFrame` of `specs/Bounds.antt` there, and the length of its text that of `specs/Lengths.antt`. The text is defined in
-//! `frame_texts`, `specs/Texts.antt`.
+//! `IsFrame` of `specs/Bounds.antt` there, and the length of its text that of `specs/Lengths.antt`. `specs/Texts.antt` defines the text and
+//! which frames can be read back from it, `specs/Flight.antt` properties of the frames in flight: each has a text, which has the length
+//! that the machine counts. [`laws`] has the laws on which a codec rests.
 #![tactic(auto)]
 
 mod effect;
 pub mod frame;
+pub mod laws;
 pub mod lengths;
 pub mod lists;
 mod rules;

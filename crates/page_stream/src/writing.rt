@@ -3,8 +3,8 @@
 ghost use Rattle.std.specs.Prelude.{◌≡◌, ℕ, List, ◌+◌, ◌≤◌, ◌<◌, ◌^◌, ◌++◌, length, IfOk, OnOk, OnErr, IsOk, vec_len, vec_capacity};
 ghost use Rattle.std.specs.List.{flat_map};
 ghost use Rattle.std.specs.Int.{w32, to_be_bytes};
-ghost use Rattle.frame_texts.specs.Texts.{HasWholePages, areas_of, areas_text, area_text, body_text, command_text, commands_text, header_text, run_text, runs_of, runs_text, state_code, tag_code, text};
-ghost use Rattle.frame_texts.specs.Texts.Version.{Two};
+ghost use Rattle.page_stream.specs.Texts.{HasWholePages, areas_of, areas_text, area_text, body_text, command_text, commands_text, header_text, run_text, runs_of, runs_text, state_code, tag_code, text};
+ghost use Rattle.page_stream.specs.Texts.Version.{Two};
 ghost use Rattle.mig_base.specs.Codes.{prot_number};
 ghost use Rattle.mig_base.specs.declared.TheConstants.{MAX_RUN};
 ghost use Rattle.mig_model.specs.Bounds.{IsFrame};

@@ -5,15 +5,15 @@ use native.Mathlib.Decide.{ℕ_discrete}
 use Rattle.std.specs.Ordering.{nat_cmp}
 use Rattle.std.specs.FinSet.{FinSet, contains, insert, remove}
 use Rattle.std.proofs.lemmas.Bool.Decides.{nat_tests}
-use Rattle.mig_base.specs.Ranges.{in_range}
+use Rattle.foundation.specs.Ranges.{in_range}
 use Rattle.mig_base.specs.Sets.{without}
 use Rattle.mig_base.proofs.SetLemmas.{member_inserted, member_removed, member_without}
-use Rattle.mig_base.specs.declared.TheConstants.{PAGE_SIZE}
+use Rattle.foundation.specs.declared.TheConstants.{PAGE_SIZE}
 use Rattle.std.proofs.lemmas.Option.{same_Some}
 use Rattle.std.proofs.lemmas.Bool.{eq-eqb, ne_eqb}
 use Rattle.mig_base.specs.Bytes.{overwrite, zero_page}
 use Rattle.mig_base.proofs.ByteLemmas.{length-zero_page}
-use Rattle.mig_base.proofs.TestLemmas.{and_true, and_false, cond_true, cond_false}
+use Rattle.foundation.proofs.TestLemmas.{and_true, and_false, cond_true, cond_false}
 use Rattle.page_table.specs.Bytes.{Page, IsWhole, AreWhole, stored_page}
 use Rattle.page_table.specs.Leaves.{Cell, no_cell}
 

@@ -3,11 +3,11 @@ use Rattle.std.proofs.Common.{◌≡◌, ℕ, ◌+◌, ◌-◌, ◌*◌, ◌/◌
 use mathlib.Core.Logic.{dite}
 use native.Mathlib.Decide.{ℕ_discrete}
 use Rattle.std.proofs.lemmas.Bool.{eq-eqb, ne_eqb}
-use Rattle.mig_base.specs.Ranges.{in_range}
+use Rattle.foundation.specs.Ranges.{in_range}
 use Rattle.mig_base.specs.Sets.{without}
 use Rattle.mig_base.proofs.SetLemmas.{member_without}
 use Rattle.mig_base.proofs.PlaceLemmas.{in_this, before_this, not_this}
-use Rattle.mig_base.proofs.TestLemmas.{and_true, and_first}
+use Rattle.foundation.proofs.TestLemmas.{and_true, and_first}
 use Rattle.page_table.specs.Leaves.{Cell, Place, cell_in, cell_at, opened_cell}
 use Rattle.page_table.specs.Views.{Pages, shown_pages, IsTable}
 use Rattle.page_table.proofs.TableLemmas.{Places, at_place, past_places, cell_at-set}

@@ -10,9 +10,9 @@ use Rattle.std.proofs.lemmas.Option.{none-some, same_Some}
 use Rattle.std.proofs.lemmas.Slice.Eq.{bytes_eq-Decides}
 use Rattle.std.specs.Option.{option_eq}
 use Rattle.std.specs.Cmp.Lexicographic.{pointwise}
-use Rattle.mig_base.specs.declared.TheConstants.{PAGE_SIZE}
-use Rattle.mig_base.specs.Ranges.{in_range}
-use Rattle.mig_base.proofs.RangeLemmas.{in_range-none, in_range-out}
+use Rattle.foundation.specs.declared.TheConstants.{PAGE_SIZE}
+use Rattle.foundation.specs.Ranges.{in_range}
+use Rattle.foundation.proofs.RangeLemmas.{in_range-none, in_range-out}
 use Rattle.mig_base.proofs.PlaceLemmas.{said_at, said_here, said_past, said-set, said_same, said-push, said-put, nothing_yet, all_now, in_this, before_this, not_this}
 use Rattle.page_table.specs.Leaves.{Cell, Place, cell_in, cell_at, is_place, no_cell, moved_cell}
 

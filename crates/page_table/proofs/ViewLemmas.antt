@@ -7,7 +7,7 @@ use Rattle.std.specs.FinSet as set
 use Rattle.std.proofs.lemmas.Bool.Decides.{nat_tests}
 use Rattle.std.proofs.lemmas.Bool.{false≢true, eq-eqb, cases_Bool, ne_eqb}
 use Rattle.mig_base.specs.declared.TheConstants.{HIGH_PAGE}
-use Rattle.mig_base.specs.Ranges.{in_range}
+use Rattle.foundation.specs.Ranges.{in_range}
 use Rattle.mig_base.specs.Pages.{remove_range, map_below}
 use Rattle.mig_base.specs.Sets.{without, set_below}
 use Rattle.mig_base.proofs.PageLemmas.{same_pages, get-remove_range, get-map_below}
@@ -17,7 +17,7 @@ use native.Mathlib.Decide.{ℕ_discrete}
 use Rattle.std.proofs.Common.{get_or, ◌%◌, ◌*◌}
 use Rattle.page_table.specs.Leaves.{Cell, Place, cell_at, cell_in, is_place, has_place, no_cell, moved_cell, stored_cell}
 use Rattle.mig_base.specs.Bytes.{overwrite, contents, zero_page}
-use Rattle.mig_base.proofs.TestLemmas.{none_below_zero, all_below, cond_false, cond_true, and_not}
+use Rattle.foundation.proofs.TestLemmas.{none_below_zero, all_below, cond_false, cond_true, and_not}
 use Rattle.page_table.specs.Views.{Pages, shown_pages, IsTable}
 use Rattle.page_table.proofs.TableLemmas.{past_places, at_place}
 

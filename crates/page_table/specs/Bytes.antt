@@ -2,7 +2,7 @@
 use Rattle.std.specs.Prelude.{◌≡◌, ◌==◌, ◌&&◌, not, Bool, true, if◌then◌else◌, ℕ, List, Option, Some, None, Result, Ok, Err, unwrap_or, length, slice_index_or}
 use Rattle.std.specs.List.{list_all}
 use Rattle.mig_base.specs.Bytes.{overwrite, zero_page}
-use Rattle.mig_base.specs.declared.TheConstants.{PAGE_SIZE}
+use Rattle.foundation.specs.declared.TheConstants.{PAGE_SIZE}
 
 -- a page of a table: its bytes if it is present, else none
 abbrev pub Page : Type 0

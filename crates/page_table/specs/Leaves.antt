@@ -3,7 +3,7 @@ use Rattle.std.specs.Prelude.{ℕ, ◌+◌, ◌-◌, ◌/◌, ◌%◌, ◌&&◌,
 use Rattle.std.specs.FinSet.{contains}
 use Rattle.std.specs.declared.boxed.Box.{Box}
 use Rattle.std.specs.declared.alloc.Global.{Global}
-use Rattle.mig_base.specs.Ranges.{in_range}
+use Rattle.foundation.specs.Ranges.{in_range}
 use Rattle.mig_base.specs.declared.chunk.TheConstants.{CHUNK}
 use Rattle.page_table.specs.declared.leaf.Leaf.{Leaf}
 use Rattle.page_table.specs.Bytes.{stored_page}

@@ -2,8 +2,8 @@
 
 ghost use Rattle.std.specs.Prelude.{◌≡◌, ◌≢◌, ℕ, ◌+◌, ◌<◌, ◌≤◌, true, nat_eq, if◌then◌else◌, None, OnErr, IfOk, length, slice_index_or, slice_set};
 ghost use Rattle.std.specs.FinSet.{contains};
-ghost use Rattle.mig_base.specs.Ranges.{in_range};
-ghost use Rattle.mig_base.specs.declared.TheConstants.{PAGE_SIZE};
+ghost use Rattle.foundation.specs.Ranges.{in_range};
+ghost use Rattle.foundation.specs.declared.TheConstants.{PAGE_SIZE};
 ghost use Rattle.mig_base.specs.declared.chunk.TheConstants.{CHUNK};
 ghost use Rattle.page_table.specs.Bytes.{AreWhole, stored_page, write_needs_room};
 

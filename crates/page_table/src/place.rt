@@ -4,8 +4,8 @@
 ghost use Rattle.std.specs.Prelude.{◌≡◌, ℕ, ◌+◌, ◌*◌, ◌%◌, ◌<◌, ◌≤◌, ◌&&◌, ◌||◌, ◌↔◌, Bool, true, false, nat_eq, if◌then◌else◌, None, IfOk, OnOk, OnErr, is_some, length};
 ghost use Rattle.std.specs.Option.{option_copied};
 ghost use Rattle.std.specs.FinSet.{contains};
-ghost use Rattle.mig_base.specs.Ranges.{in_range};
-ghost use Rattle.mig_base.specs.declared.TheConstants.{PAGE_SIZE};
+ghost use Rattle.foundation.specs.Ranges.{in_range};
+ghost use Rattle.foundation.specs.declared.TheConstants.{PAGE_SIZE};
 ghost use Rattle.mig_base.specs.declared.chunk.TheConstants.{CHUNK};
 ghost use Rattle.page_table.specs.Bytes.{IsWhole, unless_zeros, write_needs_room};
 ghost use Rattle.page_table.specs.Leaves.{Cell, cell_in, leaf_cell, is_place, no_cell, with_protection, stored_cell};

@@ -3,8 +3,9 @@
 ghost use Rattle.std.specs.Prelude.{◌≡◌, ℕ, ◌+◌, ◌-◌, ◌/◌, ◌%◌, ◌<◌, ◌≤◌, ◌⊎◌, ◌↔◌, Bool, true, false, nat_eq, if◌then◌else◌, None, OnOk, OnErr, IfOk, is_some, length, slice_index_or};
 ghost use Rattle.std.specs.FinSet.{contains};
 ghost use Rattle.std.specs.Option.{option_copied};
-ghost use Rattle.mig_base.specs.Ranges.{in_range};
-ghost use Rattle.mig_base.specs.declared.TheConstants.{HIGH_PAGE, PAGE_SIZE};
+ghost use Rattle.foundation.specs.Ranges.{in_range};
+ghost use Rattle.foundation.specs.declared.TheConstants.{PAGE_SIZE};
+ghost use Rattle.mig_base.specs.declared.TheConstants.{HIGH_PAGE};
 ghost use Rattle.mig_base.specs.declared.chunk.TheConstants.{CHUNK, CHUNKS};
 ghost use Rattle.page_table.specs.Bytes.{IsWhole, unless_zeros, write_needs_room};
 ghost use Rattle.page_table.specs.Leaves.{Cell, cell_at, cell_in, has_place, no_cell, with_protection, stored_cell, moved_cell, put_cell};

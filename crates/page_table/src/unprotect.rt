@@ -1,7 +1,7 @@
 //! Ending the protection of a range, leaf by leaf.
 
 ghost use Rattle.std.specs.Prelude.{◌≡◌, ℕ, ◌+◌, ◌≤◌, length};
-ghost use Rattle.mig_base.specs.Ranges.{in_range};
+ghost use Rattle.foundation.specs.Ranges.{in_range};
 ghost use Rattle.mig_base.specs.declared.TheConstants.{HIGH_PAGE};
 ghost use Rattle.page_table.specs.Leaves.{cell_in, leaf_cell, cell_at, opened_cell};
 

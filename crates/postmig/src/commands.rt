@@ -16,15 +16,15 @@ use console::{
 use draw::run_draw;
 use engine::line_runner::write_out;
 use engine::script_reader::MAX_LINE;
-use engine::{Mode, RunFault, check_script, run_script};
+use engine::{Mode, NamedScript, RunFault, Setup, check_script, run_script};
 use expected::{answer_script, echo_script};
-use explain::{Asks, Noting, explain_script};
+use explain::{Asks, NotingReader, explain_script};
 use explore::{Plan, Profile, run_explore};
 use finishing::{Ending, finish_script};
 use frames::run_frames;
 use grammar::Language;
 use host_calls::run_steps;
-use lint::lint_lines;
+use lint::{Listed, lint_lines};
 use rig::CloseFault;
 use std::alloc::AllocError;
 use std::env::Env;
@@ -37,8 +37,8 @@ use streams::{
     ALL_DONE, BAD_COMMAND_OR_SCRIPT, Given, NO_FLAT_RUN, NO_MEMORY, READ_OR_WRITE_FAULT, Tap,
     Watched, can_tap, make_tap, name_bad_argument, open_input, open_output,
 };
-use threads::{Run, run_threads};
-use wiretap::{Taps, run_tapped};
+use threads::{Run, Scenario, run_threads};
+use wiretap::Taps;
 
 /// What a script lacks in which there is nothing to look at.
 pub(crate) const NO_LINE: &str = "no line of a script";
@@ -106,6 +106,7 @@ fn run(rt: &HostRuntime, matches: &ArgMatches) -> u8
     } else {
         Mode::Lines
     };
+    let setup = Setup { cpus, mode };
     let given = given_by(matches);
     let Some(mut input) = open_script(rt, given, matches.get_flag("answers")) else {
         return READ_OR_WRITE_FAULT;
@@ -113,7 +114,7 @@ fn run(rt: &HostRuntime, matches: &ArgMatches) -> u8
     let mut output = open_output(rt);
     let taps = taps_named(matches);
     if taps.iter().any(|name| name.is_some()) {
-        return run_with_taps(rt, given, &taps, &mut input, &mut output, cpus, mode);
+        return run_with_taps(rt, given, &taps, &mut input, &mut output, setup);
     }
     if matches.get_flag("answers") || matches.get_flag("echo") {
         return run_with_answers(rt, matches, input, &mut output, cpus);
@@ -121,7 +122,7 @@ fn run(rt: &HostRuntime, matches: &ArgMatches) -> u8
     let ran = if matches.get_flag("steps") {
         run_steps(rt.alloc(), &mut input, &mut output, cpus)
     } else {
-        run_script(rt.alloc(), &mut input, &mut output, cpus, mode)
+        run_script(rt.alloc(), &mut input, &mut output, setup)
     };
     let outcome = ran.map(|()| true);
     end_at_lines(rt, given, &input, &output, Language::Script, outcome)
@@ -189,17 +190,16 @@ fn run_with_taps(
     names: &[Option<&str>; 3],
     input: &mut Watched<'_, Script>,
     output: &mut Watched<'_, Stdout>,
-    cpus: u8,
-    mode: Mode,
+    setup: Setup,
 ) -> u8
-    requires low { 1 ≤ cpus }
-    requires high { cpus ≤ 16 }
+    requires low { 1 ≤ setup.cpus }
+    requires high { setup.cpus ≤ 16 }
     ensures { result ≤ 6 }
 {
     let Some(mut taps) = make_taps(rt, given.file, names) else {
         return READ_OR_WRITE_FAULT;
     };
-    let outcome = run_tapped(rt.alloc(), input, output, &mut taps, cpus, mode);
+    let outcome = taps.run_tapped(rt.alloc(), input, output, setup);
     end_tapped(rt, given, input, output, &taps, outcome)
 }
 
@@ -235,7 +235,7 @@ fn check_input(rt: &HostRuntime, matches: &ArgMatches) -> u8
     let mut output = open_output(rt);
     let is_strict = matches.get_flag("strict");
     let (outcome, is_empty) = if asks.all || asks.reasons || is_strict {
-        let mut reader = Noting::new(rt.alloc(), &mut input);
+        let mut reader = NotingReader::new(rt.alloc(), &mut input);
         match explain_script(rt.alloc(), &mut reader, &mut output, asks) {
             Ok(verdict) => (Ok(verdict.is_flat), verdict.entries == 0),
             Err(fault) => (Err(fault), false),
@@ -270,7 +270,8 @@ fn lint(rt: &HostRuntime, matches: &ArgMatches) -> u8
     let mut output = open_output(rt);
     let mut painted = Painted::new(&mut output, paint_for(rt, &rt.stdout()));
     let name = given.file.unwrap_or("-");
-    let outcome = lint_lines(rt.alloc(), &mut reader, &mut painted, name, language);
+    let listed = Listed { name, language };
+    let outcome = lint_lines(rt.alloc(), &mut reader, &mut painted, listed);
     let input = reader.input();
     let status = end_lint(rt, given, input, &output, outcome);
     if outcome.is_ok() {
@@ -317,7 +318,12 @@ fn draw_script(rt: &HostRuntime, matches: &ArgMatches) -> u8
     let mut reader = Bounded::new(input, MAX_LINE);
     let mut output = open_output(rt);
     let name = given.file.unwrap_or("-");
-    let outcome = run_draw(rt.alloc(), &mut reader, &mut output, name, cpus);
+    let outcome = run_draw(
+        rt.alloc(),
+        &mut reader,
+        &mut output,
+        NamedScript { name, cpus },
+    );
     end_script(rt, given, &reader, &output, outcome)
 }
 
@@ -440,7 +446,8 @@ fn run_in_threads<T: Threads + Wait + Sync>(
     };
     let mut output = open_output(rt);
     let cut = matches.get_flag("cut");
-    let outcome = match run_threads(handle, rt.alloc(), &mut output, cpus, calls, cut) {
+    let scenario = Scenario { cpus, calls, cut };
+    let outcome = match run_threads(handle, rt.alloc(), &mut output, scenario) {
         Ok(run) => {
             if matches.get_flag("verbose") {
                 say_run(rt, &run);

@@ -10,7 +10,7 @@ use engine::RunFault;
 use engine::script_reader::MAX_LINE;
 use grammar::Token;
 use grammar::token::read_tokens;
-use show::{Asked, Form, Span, What, show_script};
+use show::{Asked, Form, Span, What};
 use std::alloc::Global;
 use streams::{BAD_COMMAND_OR_SCRIPT, READ_OR_WRITE_FAULT, open_input, open_output};
 
@@ -95,7 +95,7 @@ pub(crate) fn show(rt: &HostRuntime, matches: &ArgMatches) -> u8
     let mut reader = Bounded::new(input, MAX_LINE);
     reader.count_up_to(asked.at.unwrap_or(u64::MAX));
     let mut output = open_output(rt);
-    let outcome = match show_script(rt.alloc(), &mut reader, &mut output, cpus, asked) {
+    let outcome = match asked.show_script(rt.alloc(), &mut reader, &mut output, cpus) {
         Ok(true) => Ok(()),
         Ok(false) => match (reader.too_long(), asked.at) {
             (Some(number), _) => Err(RunFault::Line(number)),

@@ -6,7 +6,7 @@ use clap::ArgMatches;
 use console::{end, status_of};
 use engine::RunFault;
 use engine::line_runner::write_out;
-use explore::{Meeting, Met, meet_all};
+use explore::{Meeting, MetByAll, meet_all};
 use schedules::{Small, WalkFault, walk_schedules};
 use std::fs::create_dir_all;
 use streams::{
@@ -75,7 +75,7 @@ fn write_meetings(rt: &HostRuntime, folder: &str, meetings: &[Meeting]) -> u8
 }
 
 /// Writes what a walk counted. A dead end has a status of its own.
-fn write_tally(rt: &HostRuntime, met: &Met) -> u8
+fn write_tally(rt: &HostRuntime, met: &MetByAll) -> u8
     ensures { result ≤ 6 }
 {
     let tally = &met.tally;

@@ -3,8 +3,8 @@ use Rattle.std.specs.Prelude.{◌≡◌, ℕ, List, ◌∷◌}
 use Rattle.std.specs.declared.option.Option.{Option}
 use Rattle.std.specs.declared.option.Option.TheVariants.{Some}
 use Rattle.mig_model.specs.Wire.{Sent}
-use Rattle.frame_texts.specs.Texts.{text}
-use Rattle.frame_texts.specs.Texts.Version.{Two}
+use Rattle.page_stream.specs.Texts.{text}
+use Rattle.page_stream.specs.Texts.Version.{Two}
 use Rattle.frame_decoder.specs.declared.fault.StreamFault.{StreamFault}
 use Rattle.frame_decoder.specs.declared.fault.StreamFault.TheVariants as faults
 use Rattle.postmig_c.specs.declared.numbers.FrameNumbers.{FrameNumbers}

@@ -1,10 +1,10 @@
 -- The numbers of a frame.
 use Rattle.std.specs.Prelude.{ℕ, ◌*◌, length}
 use Rattle.std.specs.FinSet as finset
-use Rattle.mig_base.specs.declared.TheConstants.{PAGE_SIZE}
+use Rattle.foundation.specs.declared.TheConstants.{PAGE_SIZE}
 use Rattle.mig_model.specs.Wire.{Frame, Sent}
 use Rattle.mig_model.specs.Wire.Frame.{Advise, Page, Zero, Run, Discard, Package, End, Resume, Request, Recv, Done}
-use Rattle.frame_texts.specs.Texts.{tag_code}
+use Rattle.page_stream.specs.Texts.{tag_code}
 use Rattle.postmig_c.specs.declared.numbers.FrameNumbers.{FrameNumbers}
 
 -- the address of a frame's page, or of the first page of its run; 0 if it names no page

@@ -5,8 +5,8 @@ use Rattle.std.specs.List.{AllByRecursion}
 use Rattle.mig_model.specs.Bounds.{IsFrame}
 use Rattle.mig_model.specs.Wire.{Sent}
 use Rattle.wires.specs.Codes.{coded_sent}
-use Rattle.frame_texts.specs.Texts.{text}
-use Rattle.frame_texts.specs.Texts.Version.{Two}
+use Rattle.page_stream.specs.Texts.{text}
+use Rattle.page_stream.specs.Texts.Version.{Two}
 use Rattle.frame_decoder.specs.contracts.decoder.Decoder as decoder
 use Rattle.frame_decoder.specs.declared.fault.StreamFault.{StreamFault}
 use Rattle.frame_decoder.specs.declared.fault.StreamFault.TheVariants as faults

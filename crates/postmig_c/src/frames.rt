@@ -39,7 +39,7 @@ fn feed_queue(queue: &mut FrameQueue, bytes: &[u8]) -> u32
     }
 }
 
-/// Feeds a decoder the next bytes of its stream. Frames of the bytes before them have to be taken first.
+/// Feeds a decoder the next bytes of its stream. Frames of the bytes before them must be taken first.
 #[unsafe(no_mangle)]
 pub extern "C" fn postmig_frames_feed(alloc: Global, handle: &mut Handle, bytes: &[u8]) -> u32
     ensures ok { result ≡ 0 →

@@ -4,8 +4,8 @@ ghost use Rattle.std.specs.Prelude.{◌≡◌, ◌+◌, ◌⊎◌, ◌<◌, ◌+
 ghost use Rattle.frame_decoder.specs.Streams.{IsSent};
 ghost use Rattle.frame_decoder.specs.Versions.{version_of};
 ghost use Rattle.frame_decoder.specs.declared.version.Version.{Version};
-ghost use Rattle.frame_texts.specs.Texts.{text};
-ghost use Rattle.frame_texts.specs.Texts.Version.{Two};
+ghost use Rattle.page_stream.specs.Texts.{text};
+ghost use Rattle.page_stream.specs.Texts.Version.{Two};
 ghost use Rattle.mig_model.specs.Lengths.{text_len};
 ghost use Rattle.mig_model.specs.Wire as machine;
 ghost use Rattle.postmig_c.specs.Heads.{BeginsPage, BeginsRun};

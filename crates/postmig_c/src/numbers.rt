@@ -1,7 +1,7 @@
 //! A frame in numbers.
 
 ghost use Rattle.std.specs.Prelude.{◌≡◌};
-ghost use Rattle.frame_texts.specs.Texts.{tag_code};
+ghost use Rattle.page_stream.specs.Texts.{tag_code};
 ghost use Rattle.page_stream.specs.Frames.{frame_of};
 ghost use Rattle.frame_decoder.specs.Streams.{decoded_sent};
 ghost use Rattle.postmig_c.specs.Numbers.{address_in, count_in, numbers_of};

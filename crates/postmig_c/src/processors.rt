@@ -1,4 +1,4 @@
-//! The processors of a node's guest, of either kind: who waits for which page, and who has to be retried.
+//! The processors of a node's guest, of either kind: who waits for which page, and who must be retried.
 
 ghost use Rattle.std.specs.Prelude.{◌≡◌, ◌≢◌};
 ghost use Rattle.vcpu.specs.Answers.{state_answer};

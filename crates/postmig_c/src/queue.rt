@@ -107,7 +107,7 @@ impl FrameQueue {
         Ok(())
     }
 
-    /// Shows the first frame that waits: its numbers, and its text in [`text`](FrameQueue::text). `None` comes if no frame waits and the
+    /// Shows the first frame that waits: its numbers, and its text in [`text`](FrameQueue::text). `None` is returned if no frame waits and the
     /// stream has no fault there.
     pub(crate) fn show(&mut self) -> Result<Option<FrameNumbers>, StreamFault>
         ensures some { IfOk result (λ shown.

@@ -12,7 +12,7 @@ use engine::script_reader::MAX_LINE;
 use grammar::Language;
 use grammar::parse::parse;
 use lines::first_line;
-use lint::{Reason, lint_lines, reason_of};
+use lint::{Listed, Reason, lint_lines, reason_of};
 use mig_base::NoMemory;
 use std::alloc::Global;
 
@@ -121,7 +121,11 @@ pub extern "C" fn postmig_lint(
     let mut reader = text;
     let mut listing = Vec::new(alloc);
     let language = language_for(is_transcript);
-    match lint_lines(alloc, &mut reader, &mut listing, "-", language) {
+    let listed = Listed {
+        name: "-",
+        language,
+    };
+    match lint_lines(alloc, &mut reader, &mut listing, listed) {
         Ok(answer) => {
             *is_clean = answer;
             hand_over(&listing, out, written)

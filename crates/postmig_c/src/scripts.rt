@@ -13,8 +13,8 @@ ghost use Rattle.postmig_c.specs.Calls.{StopsAtLine, CheckStopsAtLine, asks_reas
 use crate::room::hand_over;
 use crate::status::{NO_CPU, NO_MEMORY, NOT_A_LINE};
 use crate::worlds::mode_of;
-use engine::{RunFault, check_script, run_script};
-use explain::{Asks, Noting, explain_script};
+use engine::{RunFault, Setup, check_script, run_script};
+use explain::{Asks, NotingReader, explain_script};
 use std::alloc::Global;
 
 /// The status of a fault. Of a text that has a line that is not one, `written` is then the number of that line, from 1.
@@ -57,7 +57,8 @@ pub extern "C" fn postmig_run(
     }
     let mut reader = script;
     let mut text = Vec::new(alloc);
-    match run_script(alloc, &mut reader, &mut text, cpus, mode_of(is_transcript)) {
+    let mode = mode_of(is_transcript);
+    match run_script(alloc, &mut reader, &mut text, Setup { cpus, mode }) {
         Ok(()) => hand_over(&text, out, written),
         Err(fault) => status_of(fault, written),
     }
@@ -115,7 +116,7 @@ pub extern "C" fn postmig_explain(
     ensures range { result ≤ 4 }
 {
     let asks = Asks { all, reasons: true };
-    let mut reader = Noting::new(alloc, transcript);
+    let mut reader = NotingReader::new(alloc, transcript);
     let mut text = Vec::new(alloc);
     match explain_script(alloc, &mut reader, &mut text, asks) {
         Ok(verdict) => {

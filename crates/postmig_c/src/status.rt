@@ -21,7 +21,7 @@ pub const NO_CPU: u32 = 5;
 /// No frame waits.
 pub const NO_FRAME: u32 = 6;
 
-/// Frames wait, and have to be taken first.
+/// Frames wait, and must be taken first.
 pub const FRAMES_WAIT: u32 = 7;
 
 /// The version or the tag of a header is not known.

@@ -35,7 +35,7 @@ use Rattle.mig_model.proofs.transcript.RightCommands.{AllRight, IsInside, right_
 use Rattle.mig_model.proofs.invariant.SourceMapped.{read_host}
 use Rattle.mig_model.proofs.invariant.Stopping.{member_less}
 use Rattle.mig_model.proofs.transcript.WaitingCommands.{less_same}
-use Rattle.frame_texts.proofs.FrameBounds.{member_present, present_pages}
+use Rattle.page_stream.proofs.FrameBounds.{member_present, present_pages}
 use Rattle.precopy.specs.Order.{HasRightGuest}
 
 -- Commands that wait

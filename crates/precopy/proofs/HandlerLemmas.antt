@@ -3,7 +3,7 @@ use Rattle.std.proofs.Common.{◌≡◌, ℕ, ◌*◌, ◌/◌, true, false, ltb
 use Rattle.std.specs.Prelude.{Ok, Err, Result, IfErr, IfOk, OnOk}
 use Rattle.std.specs.Option.{IsSome}
 use Rattle.mig_model.specs.Cpus.{Cpus}
-use Rattle.mig_base.specs.Tests.{first_holding, is_empty}
+use Rattle.foundation.specs.Tests.{first_holding, is_empty}
 use Rattle.mig_base.specs.declared.effect.Effect.{Effect}
 use Rattle.mig_base.specs.declared.refusal.Refusal.{Refusal}
 use Rattle.mig_base.specs.Userfault.{Noted, changing}

@@ -1,17 +1,21 @@
--- A source that goes back to pre-copy is in order; and how the steps of a recovery change a source.
-use Rattle.std.proofs.Common.{◌≡◌, ◌+◌, Bool, true, false, [], refl, sym, ◌∙◌, arith}
-use Rattle.std.specs.Prelude.{IfOk}
-use Rattle.std.specs.FinSet.{FinSet, len}
+-- A source that goes back to pre-copy, or is released, is in order; and when all pages of a set are present.
+use Rattle.std.proofs.Common.{◌≡◌, ℕ, ◌≤◌, ◌&&◌, Bool, eqb, ltb, not, true, false, refl, sym, ap, ◌∙◌, arith}
+use Rattle.std.specs.FinSet as finset
+use Rattle.std.specs.FinSet.{FinSet, contains}
 use Rattle.std.specs.Ordering.{nat_cmp}
-use Rattle.std.proofs.lemmas.Bool.{false≢true, false_from_ne_true}
-use Rattle.mig_base.specs.declared.phase.Received.{Received}
+use Rattle.std.proofs.lemmas.Bool.{false≢true, false_from_ne_true, not-false}
+use Rattle.std.proofs.lemmas.Bool.Decides.{nat_tests}
+use Rattle.mig_base.specs.declared.TheConstants.{HIGH_PAGE}
 use Rattle.mig_base.specs.declared.phase.SourcePhase.{SourcePhase}
-use Rattle.mig_model.specs.Log.{Log, empty_log, forgotten, present}
-use Rattle.mig_model.specs.NodeSteps.{unless}
-use Rattle.mig_model.specs.Source.{Source, is_released, source_took, space_of}
-use Rattle.mig_model.specs.SourceSteps.{pause, resume}
-use Rattle.mig_model.specs.Space.{Space, fresh_space}
-use Rattle.mig_model.specs.Wire.{Frame}
+use Rattle.mig_base.proofs.SetLemmas.{member_below}
+use Rattle.mig_base.proofs.SetSizes.{len-some}
+use Rattle.foundation.proofs.TestLemmas.{and_false}
+use Rattle.mig_model.specs.Guest.{is_present}
+use Rattle.mig_model.specs.Log.{Log, empty_log, forgotten, less, present}
+use Rattle.mig_model.specs.Source.{is_released}
+use Rattle.mig_model.specs.Space.{IsSoundSpace, Space, fresh_space}
+use Rattle.mig_model.proofs.delivery.FrameFaults.{none_empty, present_below}
+use Rattle.mig_model.proofs.invariant.Stopping.{member_less}
 use Rattle.dirty_log.proofs.KeptLemmas.{none_clean}
 use Rattle.precopy.specs.Order.{IsInOrder}
 use Rattle.precopy.proofs.TodoLemmas.{none_todo}
@@ -41,20 +45,21 @@ released_order switched is =
       released = λ h. is;
     }
 
--- The steps of a recovery
+-- Pages that are present
 
-pub paused_by : (node : Source) → IfOk (pause node) (λ paused. paused.node ≡ record node { phase = SourcePhase.Paused })
-paused_by node = grind arith
+out_by : (a b : Bool) → (a ≡ true → b ≡ true) → (a && not b) ≡ false
+out_by a b h = grind (arith, nat_tests)
 
-pub paused_kept : (node : Source) → IfOk (pause node) (λ paused. is_released node.phase ≡ false)
-paused_kept node = grind arith
+pub all_present : (space : Space) (pages : FinSet nat_cmp) → IsSoundSpace space → ((q : ℕ) → contains pages q ≡ true → is_present space q ≡ true) → eqb (finset.len (less pages (present space))) 0 ≡ true
+all_present space pages sound h =
+    not-false _ (none_empty (less pages (present space)) (λ q. member_less pages (present space) q ∙ out_by (contains pages q) (contains (present space) q) (λ is. present_below space sound q (h q is))))
 
-pub resumed_by : (node : Source) → IfOk (resume node) (λ resumes. resumes.node ≡ record node { epoch = node.epoch + 1; urgent_sent = 0 })
-unfolding unless
-resumed_by node = grind arith
+some_left : (n : ℕ) → 1 ≤ n → eqb n 0 ≡ false
+some_left n h = grind (arith, nat_tests)
 
-pub not_switched_by : (node : Source) (owed : FinSet nat_cmp) → node.switched ≡ false → source_took node (Frame.Recv Received.NotRun owed) ≡ record node { phase = SourcePhase.Precopy; asked = []; log = forgotten node.log }
-not_switched_by node owed h = rw h refl
+absent : (space : Space) (q : ℕ) → is_present space q ≡ false → contains (present space) q ≡ false
+absent space q h = member_below _ HIGH_PAGE q ∙ ap (λ b. ltb q HIGH_PAGE && b) h ∙ and_false (ltb q HIGH_PAGE)
 
-pub not_run_by : (node : Source) (owed : FinSet nat_cmp) → node.switched ≡ true → source_took node (Frame.Recv Received.NotRun owed) ≡ record node { phase = SourcePhase.Stopped; asked = []; remaining = present (space_of node); packaged = len (present (space_of node)) }
-not_run_by node owed h = rw h refl
+pub one_missing : (space : Space) (pages : FinSet nat_cmp) (q : ℕ) → contains pages q ≡ true → is_present space q ≡ false → eqb (finset.len (less pages (present space))) 0 ≡ false
+one_missing space pages q here gone =
+    some_left _ (len-some (less pages (present space)) q (member_less pages (present space) q ∙ ap (λ b. b && not (contains (present space) q)) here ∙ ap not (absent space q gone)))

@@ -5,10 +5,10 @@ use Rattle.std.specs.FinSet.{contains}
 use Rattle.mig_base.specs.declared.effect.Effect.{Effect}
 use Rattle.mig_base.specs.declared.refusal.Refusal.{Refusal}
 use Rattle.mig_base.specs.declared.TheConstants.{HIGH_PAGE, LOW_PAGE, MAX_RUN}
-use Rattle.mig_base.specs.Ranges.{in_range}
+use Rattle.foundation.specs.Ranges.{in_range}
 use Rattle.mig_base.specs.Sets.{run_length}
-use Rattle.mig_base.specs.Tests.{is_every}
-use Rattle.mig_base.proofs.RangeLemmas.{in_range-true, least_below_tells, none_below-from}
+use Rattle.foundation.specs.Tests.{is_every}
+use Rattle.foundation.proofs.RangeLemmas.{in_range-true, least_below_tells, none_below-from}
 use Rattle.mig_base.proofs.SetLemmas.{member_run, run_length-some}
 use Rattle.mig_model.specs.Bounds.{ArePageBytes, IsFrame}
 use Rattle.mig_model.specs.SourceSteps.{next_to_send, run_bound, send, send_pages, send_run}
@@ -22,8 +22,8 @@ use Rattle.dirty_log.specs.Spaces.{is_sendable}
 use Rattle.precopy.specs.Order.{AreSendable}
 use Rattle.precopy.proofs.SendLemmas.{least_sent, no_unread, only_memory, quiet, send_checked}
 use Rattle.precopy.proofs.StepLemmas.{lacks}
-use Rattle.frame_texts.proofs.FrameBounds.{length-run_of}
-use Rattle.frame_texts.proofs.FrameSteps.{most_bound}
+use Rattle.page_stream.proofs.FrameBounds.{length-run_of}
+use Rattle.page_stream.proofs.FrameSteps.{most_bound}
 
 -- how many pages a run from here has
 abbrev pub pages_from : Source → ℕ → ℕ → ℕ

@@ -5,8 +5,8 @@ use Rattle.std.specs.FinSet.{contains}
 use Rattle.mig_base.specs.declared.effect.Effect.{Effect}
 use Rattle.mig_base.specs.declared.refusal.Refusal.{Refusal}
 use Rattle.mig_base.specs.declared.TheConstants.{HIGH_PAGE}
-use Rattle.mig_base.proofs.RangeLemmas.{least_below_tells}
-use Rattle.mig_base.specs.Ranges.{none_below}
+use Rattle.foundation.proofs.RangeLemmas.{least_below_tells}
+use Rattle.foundation.specs.Ranges.{none_below}
 use Rattle.mig_model.specs.Effects.{page_effect}
 use Rattle.mig_model.specs.NodeSteps.{IsRefusedFor as IsStepRefused, checked, sent, unless}
 use Rattle.mig_base.specs.Userfault.{Noted}

@@ -7,7 +7,7 @@ use Rattle.mig_model.specs.Wire.Frame.{Package}
 use Rattle.page_stream.specs.Frames.{frame_of}
 use Rattle.precopy.specs.declared.source.pushes.HandedOver.{HandedOver}
 
--- the pages that the destination has to discard, each of which may be mapped; the owed pages; and the well formed Package that owes them
+-- the pages that the destination must discard, each of which may be mapped; the owed pages; and the well formed Package that owes them
 pub record IsHandedOver (node : Source) (handed : HandedOver) : Type 0 where
   pub discarded : handed.discarded ≡ less node.log.sent node.log.clean
   pub pages : ArePages handed.discarded

@@ -18,7 +18,7 @@ use Rattle.dirty_log.specs.Spaces.{AreProtected, is_sendable}
 abbrev pub AreSendable : Log → Space → Type 0
 AreSendable log space = (page : ℕ) → contains log.todo page ≡ true → is_unread space.object.events page ≡ false → is_sendable space page ≡ true
 
--- until the source is released, its space may be lent to the log; clean pages are protected, and pages that the round has to send can be
+-- until the source is released, its space may be lent to the log; clean pages are protected, and pages that the round must send can be
 -- sent; a stopped or released source has switched
 pub record IsInOrder (phase : SourcePhase) (switched : Bool) (space : Space) (log : Log) : Type 0 where
   pub lent : is_released phase ≡ false → IsLent space

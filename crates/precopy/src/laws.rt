@@ -1,23 +1,19 @@
 //! What holds for all steps of a source, as laws: each is a function that does nothing and whose contract is the law.
 
-ghost use Rattle.std.specs.Prelude.{◌≡◌, ℕ, ◌+◌, not, true, false, [], IfOk};
-ghost use Rattle.std.specs.FinSet.{FinSet, len};
-ghost use Rattle.std.specs.Ordering.{nat_cmp};
+ghost use Rattle.std.specs.Prelude.{◌≡◌, ℕ, not, true, false};
 ghost use Rattle.mig_base.specs.declared.command.Command.{Command};
-ghost use Rattle.mig_base.specs.declared.phase.Received.{Received};
-ghost use Rattle.mig_base.specs.declared.phase.SourcePhase.{SourcePhase};
+ghost use Rattle.mig_base.specs.declared.schedule.Side.{Side};
 ghost use Rattle.mig_base.specs.declared.schedule.Step.{Step};
 ghost use Rattle.mig_base.specs.declared.schedule.Ticket.{Ticket};
+ghost use Rattle.mig_model.specs.Destination.{is_dest_paused};
 ghost use Rattle.mig_model.specs.GuestSteps.{issue, retry};
-ghost use Rattle.mig_model.specs.Log.{forgotten, present};
 ghost use Rattle.mig_model.specs.Migration.{World, answer, guest_tries, source_acts, source_sends, source_sends_urgently};
-ghost use Rattle.mig_model.specs.NodeSteps.{while_up};
-ghost use Rattle.mig_model.specs.Source.{Source, is_released, released, source_took, space_of};
+ghost use Rattle.mig_model.specs.NodeSteps.{while_down, while_up};
 ghost use Rattle.mig_model.specs.SourceSteps as source;
-ghost use Rattle.mig_model.specs.Wire.{Frame};
 
 /// A step of the source in a world is the source's own: its frames go to the end of their wire, and a step that sends or serves needs the
-/// link. Commands are the source's while the destination has not run.
+/// link. A Notice and a Resume need a broken one, and a Resume also a paused destination. Commands are the source's while the destination
+/// has not run.
 pub fn a_step_of_the_source()
     ensures start { (world : World) →
         answer world Step.Start ≡ source_sends world (source.start world.source) }
@@ -46,6 +42,13 @@ pub fn a_step_of_the_source()
         source_acts world (while_up world.up (source.serve world.source)) }
     ensures end { (world : World) →
         answer world Step.End ≡ source_sends world (while_up world.up (source.end world.source)) }
+    ensures notice { (world : World) →
+        answer world (Step.Notice Side.Source) ≡
+        source_acts world (while_down world.up (source.pause world.source)) }
+    ensures resume { (world : World) → is_dest_paused world.destination.phase ≡ true →
+        answer world Step.Resume ≡
+        source_sends (record world { up = true })
+        (while_down world.up (source.resume world.source)) }
     ensures issue { (world : World) (cpu : ℕ) (command : Command) →
         world.destination.has_run ≡ false →
         answer world (Step.Issue cpu command) ≡
@@ -53,41 +56,4 @@ pub fn a_step_of_the_source()
     ensures retry { (world : World) (cpu : ℕ) → world.destination.has_run ≡ false →
         answer world (Step.Retry cpu) ≡
         guest_tries world (retry world.source.guest (not world.source.switched) cpu) }
-{}
-
-/// A broken channel and the recovery from it change a source as its calls do. Its step of a Notice changes it as `pause` does, and the
-/// source is not released; its step of a Resume as `set_epoch` does, with the next epoch; and a Recv by the state of the destination. If
-/// the destination has not run, a source that has not switched changes as by `to_precopy`, and one that has switched as by `to_stopped`,
-/// with all its present pages. If the destination runs, as by `to_stopped`, and the last Package stands. If it has ended, as by `release`.
-pub fn a_recovery_of_the_source()
-    ensures notice { (node : Source) →
-        IfOk (source.pause node) (λ paused.
-        paused.node ≡ record node { phase = SourcePhase.Paused }) }
-    ensures noticed { (node : Source) →
-        IfOk (source.pause node) (λ paused. is_released node.phase ≡ false) }
-    ensures resume { (node : Source) →
-        IfOk (source.resume node) (λ resumes.
-        resumes.node ≡ record node { epoch = node.epoch + 1; urgent_sent = 0 }) }
-    ensures not_switched { (node : Source) (owed : FinSet nat_cmp) → node.switched ≡ false →
-        source_took node (Frame.Recv Received.NotRun owed) ≡
-        record node { phase = SourcePhase.Precopy; asked = []; log = forgotten node.log } }
-    ensures not_run { (node : Source) (owed : FinSet nat_cmp) → node.switched ≡ true →
-        source_took node (Frame.Recv Received.NotRun owed) ≡
-        record node {
-          phase = SourcePhase.Stopped;
-          asked = [];
-          remaining = present (space_of node);
-          packaged = len (present (space_of node));
-        } }
-    ensures running { (node : Source) (owed : FinSet nat_cmp) →
-        source_took node (Frame.Recv Received.Running owed) ≡
-        record node {
-          phase = SourcePhase.Stopped;
-          asked = [];
-          remaining = owed;
-          packaged =
-              node.packaged;
-        } }
-    ensures ended { (node : Source) (owed : FinSet nat_cmp) →
-        source_took node (Frame.Recv Received.Ended owed) ≡ released node }
 {}

@@ -7,10 +7,12 @@
 //!
 //! Contracts see a source as the machine's (`mig_model`, `specs/Source.antt`), and each call as the source's own step of its name (there,
 //! `specs/SourceSteps.antt`; of a command, `specs/GuestSteps.antt`): it has the same effect, the same frames and the same source after it,
-//! or the same refusal; or memory runs out and nothing changes.
+//! or the same refusal; or memory runs out and nothing changes. A frame that comes back is taken, and answered, as the machine does.
 #![tactic(auto, unfolding(mig_model::specs::NodeSteps::unless))]
 
+mod fault;
 pub mod laws;
 pub mod source;
 
+pub use crate::fault::SourceFault;
 pub use crate::source::Source;

@@ -27,7 +27,7 @@ use vcpu::{Cpus, NewFault};
 /// The source of a migration.
 ///
 /// A call that is refused changes nothing. If several refusals apply, a call returns the first in the order of
-/// [`mig_base::refusal::Refusal`]; `NoMemory` comes after all others, and the same call may succeed later. The caller has to know
+/// [`mig_base::refusal::Refusal`]; `NoMemory` comes after all others, and the same call may succeed later. The caller must know
 /// whether the link is up: a source sends, and does not see whether what it sends arrives.
 #[derive(Drop)]
 pub struct Source {

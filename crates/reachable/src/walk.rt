@@ -148,7 +148,7 @@ fn begin<S: Drop, M: Copy, Y: System<S, M>>(
 
 /// All states that these moves reach from the first one, at most `most` of them, in the order of a walk that is breadth first.
 ///
-/// `Full` comes where there are more states, `NoMemory` where an allocation fails.
+/// `Full` is returned where there are more states, `NoMemory` where an allocation fails.
 pub fn reach<S, M, Y>(
     alloc: Global,
     system: &Y,

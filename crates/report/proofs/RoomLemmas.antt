@@ -9,7 +9,7 @@ use Rattle.mig_base.specs.declared.command.Command.{Command}
 use Rattle.mig_base.specs.declared.command.Command.TheVariants.{Load, Store, Mmap, Munmap, Mremap, DontNeed}
 use Rattle.mig_base.specs.Bytes.{page_at}
 use Rattle.mig_base.specs.Flat.{Memory, reply_of}
-use Rattle.mig_base.proofs.RangeLemmas.{none_below-from}
+use Rattle.foundation.proofs.RangeLemmas.{none_below-from}
 use Rattle.mig_model.specs.Host.{Host, byte_in, memory}
 use Rattle.mig_model.specs.Space.{is_made}
 use Rattle.page_table.specs.Bytes.{Page, is_zeros, write_needs_room}

@@ -1,12 +1,12 @@
 -- What a check finds: the first entry whose reply is not that of one flat memory.
 use Rattle.std.specs.Prelude.{◌≡◌, ◌≢◌, ℕ, ◌*◌, ◌/◌, ◌==◌, ◌&&◌, Bool, true, false, not, List, Option, Some, None, take, slice_get}
-use Rattle.mig_base.specs.declared.TheConstants.{PAGE_SIZE}
+use Rattle.foundation.specs.declared.TheConstants.{PAGE_SIZE}
 use Rattle.mig_base.specs.declared.command.Reply.{Reply}
 use Rattle.mig_base.specs.declared.command.Entry.{Entry}
 use Rattle.mig_base.specs.declared.command.Command.{Command}
 use Rattle.mig_base.specs.declared.command.Command.TheVariants.{Load, Store, DontNeed}
 use Rattle.mig_base.specs.Flat.{Cell, Memory, reply_of, IsFlatRun, memory_of}
-use Rattle.mig_base.specs.Tests.{is_every}
+use Rattle.foundation.specs.Tests.{is_every}
 use Rattle.mig_model.specs.Space.{is_made}
 use Rattle.uffd_ioctl.specs.Spaces.{is_refused}
 use Rattle.report.specs.declared.check.CheckFault.{CheckFault}

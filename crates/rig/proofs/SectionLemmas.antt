@@ -21,7 +21,7 @@ use Rattle.mig_base.specs.declared.refusal.Refusal.{Refusal}
 use Rattle.mig_model.proofs.steps.StepLemmas.{next-refused}
 use Rattle.mig_model.proofs.steps.StepCases.{made-effect}
 use Rattle.mig_model.specs.Promises.{IsReached}
-use Rattle.rig.specs.declared.section.Tried.{Tried}
+use Rattle.rig.specs.declared.section.Attempt.{Attempt}
 use Rattle.rig.specs.Sections.{IsEntered, IsServed, IsSomeOutcome, IsReplyTo, IsToldOf, IsTried, entries_by}
 
 entered_by : (entries : List Entry) (cpu : ℕ) (command : Command) (took : Took) → IsEntered (try_effect cpu took) entries (entries ++ entries_of cpu command took) cpu command
@@ -70,10 +70,10 @@ same_woken world cpu one other is also =
     same_Some one other (ap outstanding (sym (state_is world cpu (CpuState.Woken one) is) ∙ state_is world cpu (CpuState.Woken other) also))
 
 -- what became of a command whose step was made
-pub told_of : (old new : World) (step : Step) (cpu : ℕ) (command : Command) (tried : Tried) → IsReached old → IsTried old step (Ok tried) new → new.transcript ≡ old.transcript ++ entries_by cpu command tried → IsToldOf cpu command tried
+pub told_of : (old new : World) (step : Step) (cpu : ℕ) (command : Command) (tried : Attempt) → IsReached old → IsTried old step (Ok tried) new → new.transcript ≡ old.transcript ++ entries_by cpu command tried → IsToldOf cpu command tried
 unfolding IsReplyTo
-told_of old new step cpu command (Tried.Replied reply) reached try entered = (old, new, step, try.0, reached, try.1, entered)
-told_of old new step cpu command Tried.Asleep reached try entered = tt
+told_of old new step cpu command (Attempt.Replied reply) reached try entered = (old, new, step, try.0, reached, try.1, entered)
+told_of old new step cpu command Attempt.Asleep reached try entered = tt
 
 -- a Serve that is made in one epoch alone
 pub served : (epoch : ℕ) (new : World) (result : Outcome) → IsServed epoch result new → (result ≡ Err Refusal.StaleEpoch) ⊎ IsSomeOutcome Step.Serve result

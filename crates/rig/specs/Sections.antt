@@ -10,7 +10,7 @@ use Rattle.mig_base.specs.declared.schedule.Step.{Step}
 use Rattle.mig_model.specs.Migration.{World}
 use Rattle.mig_model.specs.Promises.{IsReached}
 use Rattle.mig_model.specs.Runs.{Happens, Outcome}
-use Rattle.rig.specs.declared.section.Tried.{Tried}
+use Rattle.rig.specs.declared.section.Attempt.{Attempt}
 
 -- the world is that to which this one step led, with this outcome, from some world that steps can reach
 abbrev pub IsMade : Step → Outcome → World → Type 0
@@ -28,18 +28,18 @@ IsServed epoch outcome new =
     × (epoch ≡ old.source.epoch → Happens old Step.Serve outcome new)
 
 -- what became of a command, by the effect of its step: it has a reply, also where a map call still waits for its messages, or it sleeps
-abbrev pub IsTriedAs : Effect → Tried → Type 0
-IsTriedAs (Effect.Answered k reply) tried = tried ≡ Tried.Replied reply
-IsTriedAs (Effect.InCall k messages) tried = (reply : Reply) × (tried ≡ Tried.Replied reply)
-IsTriedAs effect tried = tried ≡ Tried.Asleep
+abbrev pub IsTriedAs : Effect → Attempt → Type 0
+IsTriedAs (Effect.Answered k reply) tried = tried ≡ Attempt.Replied reply
+IsTriedAs (Effect.InCall k messages) tried = (reply : Reply) × (tried ≡ Attempt.Replied reply)
+IsTriedAs effect tried = tried ≡ Attempt.Asleep
 
 -- one step, made or refused, and what became of its command
-abbrev pub IsTried : World → Step → Result Tried Refusal → World → Type 0
+abbrev pub IsTried : World → Step → Result Attempt Refusal → World → Type 0
 IsTried old step (Ok tried) new = (effect : Effect) × Happens old step (Ok effect) new × IsTriedAs effect tried
 IsTried old step (Err refusal) new = Happens old step (Err refusal) new
 
 -- the same of a command that is tried again
-abbrev pub IsRetry : World → ℕ → Command → Result (Command × Tried) Refusal → World → Type 0
+abbrev pub IsRetry : World → ℕ → Command → Result (Command × Attempt) Refusal → World → Type 0
 IsRetry old cpu command (Ok r) new = (r.0 ≡ command) × IsTried old (Step.Retry cpu) (Ok r.1) new
 IsRetry old cpu command (Err refusal) new = IsTried old (Step.Retry cpu) (Err refusal) new
 
@@ -48,9 +48,9 @@ abbrev pub entry_of : ℕ → Command → Reply → Entry
 entry_of cpu command reply = record { cpu = cpu; command = command; reply = reply }
 
 -- the entries of a command that was tried: none if it sleeps
-abbrev pub entries_by : ℕ → Command → Tried → List Entry
-entries_by cpu command (Tried.Replied reply) = entry_of cpu command reply ∷ []
-entries_by cpu command Tried.Asleep = []
+abbrev pub entries_by : ℕ → Command → Attempt → List Entry
+entries_by cpu command (Attempt.Replied reply) = entry_of cpu command reply ∷ []
+entries_by cpu command Attempt.Asleep = []
 
 -- the transcript after a try, by its effect: a command with its reply is entered, and so is a map call that waits for its messages
 abbrev pub IsEntered : Effect → List Entry → List Entry → ℕ → Command → Type 0
@@ -69,9 +69,9 @@ abbrev pub IsReplyOf : ℕ → Reply → Type 0
 IsReplyOf cpu reply = (command : Command) × IsReplyTo cpu command reply
 
 -- what became of a command, if its step was not refused: where it has a reply, that is the one that a step has entered
-abbrev pub IsToldOf : ℕ → Command → Tried → Type 0
-IsToldOf cpu command (Tried.Replied reply) = IsReplyTo cpu command reply
-IsToldOf cpu command Tried.Asleep = ⊤
+abbrev pub IsToldOf : ℕ → Command → Attempt → Type 0
+IsToldOf cpu command (Attempt.Replied reply) = IsReplyTo cpu command reply
+IsToldOf cpu command Attempt.Asleep = ⊤
 
 -- whether the processor is in a map call
 abbrev pub is_calling : Result CpuState Refusal → Bool

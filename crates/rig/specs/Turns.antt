@@ -34,7 +34,7 @@ kind_of Step.Break = StepKind.Break
 kind_of (Step.Notice side) = StepKind.Notice
 kind_of Step.Resume = StepKind.Resume
 
--- all bytes that have come
+-- all bytes that have arrived
 abbrev pub all_bytes : ℕ
 all_bytes = 18446744073709551615
 
@@ -79,7 +79,7 @@ may_succeed Refusal.Broken = true
 may_succeed Refusal.Phase = true
 may_succeed refusal = false
 
--- the ticket that a worker has to push again after a step
+-- the ticket that a worker must push again after a step
 abbrev pub due_after : Step → Outcome → Option Ticket
 due_after step (Ok effect) = None
 due_after step (Err refusal) = if may_succeed refusal then ticket_of step else None

@@ -79,7 +79,7 @@ pub(crate) fn continues(entries: &[Entry], opening: &[Entry], list: &[Answer], c
     next_wanted(there, left, cpu).is_none()
 }
 
-/// The least processor whose answers are not those of its seat, or whose seat did not come back as it has to.
+/// The least processor whose answers are not those of its seat, or whose seat did not come back as it must.
 pub(crate) fn first_wrong(
     entries: &[Entry],
     opening: &[Entry],
@@ -104,7 +104,7 @@ pub(crate) fn first_wrong(
     None
 }
 
-/// Whether the processor's answers are those of its seat, and the seat came back as it has to: at most once, exactly once if it was handed
+/// Whether the processor's answers are those of its seat, and the seat came back as it must: at most once, exactly once if it was handed
 /// out, and not at all if the world does not have the processor.
 fn is_right(
     entries: &[Entry],

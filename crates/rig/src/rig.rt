@@ -33,7 +33,7 @@ use world::World;
 /// Why the seats or claims with which a rig was closed do not agree with its world.
 #[derive(Clone, Copy, Debug, PartialEq, Eq, Error)]
 pub enum CloseFault {
-    /// The answers of the processor with this number are not those of its seat, or its seat did not come back as it has to.
+    /// The answers of the processor with this number are not those of its seat, or its seat did not come back as it must.
     #[error("the answers of processor {0} are not those of its seat")]
     Answers(u8),
     /// A page of the claims neither remains to be sent nor was claimed by the seat that came with them.
@@ -269,7 +269,7 @@ impl Rig {
     /// `Answers` names the least processor that fails the first: its entries are those that it had when the rig was made, and then the
     /// answers of its seat; and its seat is in `seats` at most once, exactly once if it was handed out, and not at all if the world does
     /// not have the processor. The second is for claims of the world's epoch alone: each of their pages remains to be sent, or was claimed
-    /// by the seat that comes with them. `Claims` comes if a page does neither.
+    /// by the seat that comes with them. `Claims` is returned if a page does neither.
     ///
     /// Takes 16 walks over the transcript and one over the claims, and no memory.
     pub fn close(

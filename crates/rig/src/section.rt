@@ -9,7 +9,7 @@ ghost use Rattle.mig_base.specs.declared.command.Entry.{Entry};
 ghost use Rattle.mig_base.specs.declared.cpu_state.CpuState.{CpuState};
 ghost use Rattle.mig_base.specs.declared.refusal.Refusal.{Refusal};
 ghost use Rattle.mig_base.specs.declared.schedule.Step.{Step};
-ghost use Rattle.rig.specs.declared.section.Tried.{Tried};
+ghost use Rattle.rig.specs.declared.section.Attempt.{Attempt};
 ghost use Rattle.rig.specs.Sections.{IsEntered, IsRetry, IsToldOf, IsTriedAs, IsTried, entries_by, is_calling};
 
 use mig_base::cpu_state::CpuState;
@@ -21,7 +21,7 @@ use world::World;
 
 /// What became of a command that was tried.
 #[derive(Clone, Copy, Debug, PartialEq, Eq)]
-pub(crate) enum Tried {
+pub(crate) enum Attempt {
     /// It took effect with this reply. A map call returns it once its messages have been read.
     Replied(Reply),
     /// It sleeps.
@@ -36,7 +36,7 @@ pub(crate) fn step_in(world: &mut World, step: Step) -> Result<Effect, Refusal>
 }
 
 /// A processor begins a command.
-pub(crate) fn issue_in(world: &mut World, cpu: u8, command: Command) -> Result<Tried, Refusal>
+pub(crate) fn issue_in(world: &mut World, cpu: u8, command: Command) -> Result<Attempt, Refusal>
     ensures step { IsTried world.old (Step.Issue cpu command) result world.new }
     ensures entered { IfOk result (λ tried.
         world.new.transcript ≡ world.old.transcript ++ entries_by cpu command tried) }
@@ -50,18 +50,18 @@ pub(crate) fn issue_in(world: &mut World, cpu: u8, command: Command) -> Result<T
 }
 
 /// A processor that was woken tries its command again. `NotAsleep` if it has no load or store outstanding.
-pub(crate) fn retry_in(world: &mut World, cpu: u8) -> Result<(Command, Tried), Refusal>
+pub(crate) fn retry_in(world: &mut World, cpu: u8) -> Result<(Command, Attempt), Refusal>
     ensures woken { (command : Command) → cpu_state world.old cpu ≡ Ok (CpuState.Woken command) →
         IsRetry world.old cpu command result world.new }
     ensures asleep { (command : Command) → cpu_state world.old cpu ≡ Ok (CpuState.Asleep command) →
-        (world.new ≡ world.old) × (result ≡ Ok (command, Tried.Asleep)) }
+        (world.new ≡ world.old) × (result ≡ Ok (command, Attempt.Asleep)) }
     ensures entered { IfOk result (λ r.
         world.new.transcript ≡ world.old.transcript ++ entries_by cpu r.0 r.1) }
     ensures told { IsReached world.old → IfOk result (λ r. IsToldOf cpu r.0 r.1) }
     ensures refused { OnErr result (world.new ≡ world.old) }
 {
     match world.cpu_state(cpu) {
-        Ok(CpuState::Asleep(command)) => Ok((command, Tried::Asleep)),
+        Ok(CpuState::Asleep(command)) => Ok((command, Attempt::Asleep)),
         Ok(CpuState::Woken(command)) => match world.step(Step::Retry { cpu }) {
             Ok(effect) => Ok((command, tried_as(world, effect))),
             Err(refusal) => Err(refusal),
@@ -94,7 +94,7 @@ pub(crate) fn serve_in(world: &mut World, epoch: u32) -> Result<Effect, Refusal>
 }
 
 /// What became of a try, by its effect. A map call that waits has the reply of the last entry, its own.
-fn tried_as(world: &World, effect: Effect) -> Tried
+fn tried_as(world: &World, effect: Effect) -> Attempt
     ensures entered { (old : List Entry) (cpu : ℕ) (command : Command) →
         IsEntered effect old world.now.transcript cpu command →
         world.now.transcript ≡ old ++ entries_by cpu command result }
@@ -102,11 +102,11 @@ fn tried_as(world: &World, effect: Effect) -> Tried
         IsEntered effect old world.now.transcript cpu command → IsTriedAs effect result }
 {
     match effect {
-        Effect::Answered { reply, .. } => Tried::Replied(reply),
+        Effect::Answered { reply, .. } => Attempt::Replied(reply),
         Effect::InCall { .. } => match world.transcript().last() {
-            Some(entry) => Tried::Replied(entry.reply),
-            None => Tried::Asleep,
+            Some(entry) => Attempt::Replied(entry.reply),
+            None => Attempt::Asleep,
         },
-        _ => Tried::Asleep,
+        _ => Attempt::Asleep,
     }
 }

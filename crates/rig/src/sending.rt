@@ -6,7 +6,7 @@ ghost use Rattle.pusher.specs.Seats.{IsSeatOf};
 ghost use Rattle.rig.specs.Claiming.{BeginsWith, Continues};
 ghost use Rattle.rig.specs.declared.gate.StepKind.{StepKind};
 ghost use Rattle.rig.specs.declared.gate.Worker.{Worker};
-ghost use Rattle.rig.specs.declared.sending.Held.{Held};
+ghost use Rattle.rig.specs.declared.sending.HeldTicket.{HeldTicket};
 ghost use Rattle.rig.specs.declared.turns.Leave.{Leave};
 ghost use Rattle.rig.specs.Turns.{IsStepOf, kind_of, ticket_of};
 
@@ -20,7 +20,7 @@ use pusher::{ClaimSeat, Claims};
 use std::thread;
 
 /// What a turn of a worker leaves.
-enum Held {
+enum HeldTicket {
     /// The ticket that it pushes next, if it has one.
     Ticket(Option<Ticket>),
     /// The epoch of its claims is over.
@@ -51,8 +51,8 @@ pub fn serve_turns<T: Turns>(turns: &mut T, claims: &Claims, mut seat: ClaimSeat
         };
         match turns.pass(next) {
             Pass::Go => match serve(turns, claims, &mut seat, ticket) {
-                Held::Ticket(held) => ticket = held,
-                Held::Over => return seat,
+                HeldTicket::Ticket(held) => ticket = held,
+                HeldTicket::Over => return seat,
             },
             Pass::Skip => thread::yield_now(),
             Pass::Stop => return seat,
@@ -86,8 +86,8 @@ pub fn push_turns<T: Turns>(turns: &mut T, claims: &Claims, mut seat: ClaimSeat)
                     ticket = claim_next(claims, &mut seat, &mut index);
                 }
                 match push(turns, claims.epoch(), ticket) {
-                    Held::Ticket(held) => ticket = held,
-                    Held::Over => return seat,
+                    HeldTicket::Ticket(held) => ticket = held,
+                    HeldTicket::Over => return seat,
                 }
             }
             Pass::Skip => thread::yield_now(),
@@ -103,7 +103,7 @@ fn serve<T: Turns>(
     claims: &Claims,
     seat: &mut ClaimSeat,
     ticket: Option<Ticket>,
-) -> Held
+) -> HeldTicket
     requires seat { IsSeatOf claims.now seat.old }
     requires who { T.who turns.old ≡ Worker.Serve }
     requires urgent { IfSome ticket (λ t. T.leave turns.old ≡ Leave.Step StepKind.PushUrgent) }
@@ -114,45 +114,45 @@ fn serve<T: Turns>(
     ensures who { T.who turns.new ≡ T.who turns.old }
     ensures turn { T.turn turns.new ≡ T.turn turns.old }
     ensures leave { T.leave turns.new ≡ Leave.Nothing }
-    ensures held { IfSome (T.due turns.new) (λ due. result ≡ Held.Ticket (Some due)) }
-    ensures over { result ≡ Held.Over → T.stale turns.new ≡ true }
+    ensures held { IfSome (T.due turns.new) (λ due. result ≡ HeldTicket.Ticket (Some due)) }
+    ensures over { result ≡ HeldTicket.Over → T.stale turns.new ≡ true }
 {
     if let Some(ticket) = ticket {
         return send(turns, Step::PushUrgent(ticket), ticket);
     }
     match turns.serve(claims.epoch()) {
-        Ok(Effect::Asked { addr }) => Held::Ticket(claim_at(claims, seat, addr)),
-        Err(Refusal::StaleEpoch) => Held::Over,
+        Ok(Effect::Asked { addr }) => HeldTicket::Ticket(claim_at(claims, seat, addr)),
+        Err(Refusal::StaleEpoch) => HeldTicket::Over,
         _ => {
             thread::yield_now();
-            Held::Ticket(None)
+            HeldTicket::Ticket(None)
         }
     }
 }
 
 /// One turn of the worker that pushes: it sends the page of its ticket. Without one it looks whether the epoch is over.
-fn push<T: Turns>(turns: &mut T, epoch: u32, ticket: Option<Ticket>) -> Held
+fn push<T: Turns>(turns: &mut T, epoch: u32, ticket: Option<Ticket>) -> HeldTicket
     requires who { T.who turns.old ≡ Worker.Push }
     requires leave { T.leave turns.old ≡ Leave.Step StepKind.Push }
     requires held { IfSome (T.due turns.old) (λ due. ticket ≡ Some due) }
     ensures who { T.who turns.new ≡ T.who turns.old }
     ensures turn { T.turn turns.new ≡ T.turn turns.old }
     ensures leave { T.leave turns.new ≢ Leave.Over }
-    ensures held { IfSome (T.due turns.new) (λ due. result ≡ Held.Ticket (Some due)) }
-    ensures over { result ≡ Held.Over → T.stale turns.new ≡ true }
+    ensures held { IfSome (T.due turns.new) (λ due. result ≡ HeldTicket.Ticket (Some due)) }
+    ensures over { result ≡ HeldTicket.Over → T.stale turns.new ≡ true }
 {
     if let Some(ticket) = ticket {
         return send(turns, Step::Push(ticket), ticket);
     }
     if turns.is_over(epoch) {
-        return Held::Over;
+        return HeldTicket::Over;
     }
     thread::yield_now();
-    Held::Ticket(None)
+    HeldTicket::Ticket(None)
 }
 
 /// Makes a push of a ticket, and keeps the ticket where the push may be accepted later.
-fn send<T: Turns>(turns: &mut T, step: Step, ticket: Ticket) -> Held
+fn send<T: Turns>(turns: &mut T, step: Step, ticket: Ticket) -> HeldTicket
     requires step { IsStepOf (T.who turns.old) step }
     requires leave { T.leave turns.old ≡ Leave.Step (kind_of step) }
     requires ticket { ticket_of step ≡ Some ticket }
@@ -160,18 +160,20 @@ fn send<T: Turns>(turns: &mut T, step: Step, ticket: Ticket) -> Held
     ensures who { T.who turns.new ≡ T.who turns.old }
     ensures turn { T.turn turns.new ≡ T.turn turns.old }
     ensures leave { T.leave turns.new ≡ Leave.Nothing }
-    ensures held { IfSome (T.due turns.new) (λ due. result ≡ Held.Ticket (Some due)) }
-    ensures over { result ≡ Held.Over → T.stale turns.new ≡ true }
+    ensures held { IfSome (T.due turns.new) (λ due. result ≡ HeldTicket.Ticket (Some due)) }
+    ensures over { result ≡ HeldTicket.Over → T.stale turns.new ≡ true }
 {
     let outcome = turns.make(step);
     if outcome.is_ok() {
-        return Held::Ticket(None);
+        return HeldTicket::Ticket(None);
     }
     thread::yield_now();
     match outcome {
-        Err(Refusal::NoMemory | Refusal::Broken | Refusal::Phase) => Held::Ticket(Some(ticket)),
-        Err(Refusal::StaleEpoch) => Held::Over,
-        _ => Held::Ticket(None),
+        Err(Refusal::NoMemory | Refusal::Broken | Refusal::Phase) => HeldTicket::Ticket(Some(
+            ticket,
+        )),
+        Err(Refusal::StaleEpoch) => HeldTicket::Over,
+        _ => HeldTicket::Ticket(None),
     }
 }
 

@@ -8,7 +8,7 @@ ghost use Rattle.rig.specs.declared.gate.Pass.{Pass};
 ghost use Rattle.rig.specs.declared.gate.StepKind.{StepKind};
 ghost use Rattle.rig.specs.declared.gate.Worker.{Worker};
 ghost use Rattle.rig.specs.declared.turns.Leave.{Leave};
-ghost use Rattle.rig.specs.declared.turns.Taken.{Taken};
+ghost use Rattle.rig.specs.declared.turns.TurnOutcome.{TurnOutcome};
 ghost use Rattle.rig.specs.Sections.{IsSomeOutcome};
 ghost use Rattle.rig.specs.Turns.{Asks, IsStepOf, due_after, is_push, is_stale, kind_of, steps_of, ticket_of};
 
@@ -33,7 +33,7 @@ pub enum Leave {
 }
 
 /// What came of a turn.
-enum Taken {
+enum TurnOutcome {
     /// A step was made.
     Step,
     /// No step was made.
@@ -165,9 +165,9 @@ fn take_turns<T: Turns>(turns: &mut T, steps: &[Step])
     let mut rest = 1;
     for turn in 0..u64::MAX {
         match take_turn(turns, steps[(turn % count) as usize]) {
-            Taken::Step => is_idle = false,
-            Taken::Nothing => {}
-            Taken::Stop => return,
+            TurnOutcome::Step => is_idle = false,
+            TurnOutcome::Nothing => {}
+            TurnOutcome::Stop => return,
         }
         if turn % count == count - 1 {
             rest = if is_idle { rest_after(rest) } else { 1 };
@@ -178,7 +178,7 @@ fn take_turns<T: Turns>(turns: &mut T, steps: &[Step])
 
 /// Asks for a step of the worker's table, and makes it if it may.
 #[tactic(auto, using(crate::proofs::TurnLemmas::due_none))]
-fn take_turn<T: Turns>(turns: &mut T, step: Step) -> Taken
+fn take_turn<T: Turns>(turns: &mut T, step: Step) -> TurnOutcome
     requires step { IsStepOf (T.who turns.old) step }
     requires asks { Asks (T.who turns.old) (T.turn turns.old) (kind_of step) }
     requires runs { T.leave turns.old ≢ Leave.Over }
@@ -188,19 +188,19 @@ fn take_turn<T: Turns>(turns: &mut T, step: Step) -> Taken
     ensures who { T.who turns.new ≡ T.who turns.old }
     ensures turn { T.turn turns.new ≡ suc (T.turn turns.old) }
     ensures none { T.due turns.new ≡ None }
-    ensures runs { result ≢ Taken.Stop → T.leave turns.new ≢ Leave.Over }
-    ensures stop { result ≡ Taken.Stop → T.leave turns.new ≡ Leave.Over }
+    ensures runs { result ≢ TurnOutcome.Stop → T.leave turns.new ≢ Leave.Over }
+    ensures stop { result ≡ TurnOutcome.Stop → T.leave turns.new ≡ Leave.Over }
 {
     match turns.pass(StepKind::of(step)) {
         Pass::Go => {
             if turns.make(step).is_ok() {
-                Taken::Step
+                TurnOutcome::Step
             } else {
-                Taken::Nothing
+                TurnOutcome::Nothing
             }
         }
-        Pass::Skip => Taken::Nothing,
-        Pass::Stop => Taken::Stop,
+        Pass::Skip => TurnOutcome::Nothing,
+        Pass::Stop => TurnOutcome::Stop,
     }
 }
 

@@ -5,7 +5,7 @@ use Rattle.mig_base.specs.declared.command.Place.TheVariants.{Anywhere}
 use Rattle.mig_base.specs.declared.Prot.TheVariants.{ReadWrite}
 use Rattle.mig_base.specs.declared.schedule.Step.{Step}
 use Rattle.mig_base.specs.declared.schedule.Step.TheVariants as step
-use Rattle.mig_base.specs.declared.TheConstants.{PAGE_SIZE}
+use Rattle.foundation.specs.declared.TheConstants.{PAGE_SIZE}
 use Rattle.mig_model.specs.Migration.{World, first_world, next}
 use Rattle.reachable.specs.declared.found.Found.{Found}
 use Rattle.reachable.specs.Reachable.{AreAll}

@@ -61,7 +61,7 @@ fn start(alloc: Global, small: &Small) -> Result<World, WalkFault>
 
 /// All worlds that the schedules of a small world lead to, at most `most` of them.
 ///
-/// `Full` comes where there are more, `NoMemory` where an allocation fails.
+/// `Full` is returned where there are more, `NoMemory` where an allocation fails.
 pub fn walk_schedules(alloc: Global, small: &Small, most: usize) -> Result<Walked, WalkFault>
     requires low { 1 ≤ small.now.cpus }
     requires high { small.now.cpus ≤ 16 }

@@ -1,6 +1,6 @@
 //! Scripts, transcripts and streams of frames in a hundred thousand reads.
 
-use engine::{Mode, RunFault, check_script, run_script};
+use engine::{Mode, RunFault, Setup, check_script, run_script};
 use frames::{FramesFault, run_frames};
 use std::alloc::{AllocError, Global};
 use std::io;
@@ -72,7 +72,7 @@ fn run(alloc: Global, mode: Option<Mode>) -> Result<(Option<RunFault>, Vec<u8>),
     let mut reader = over_and_over(COMMENT);
     let mut writer = writer(alloc, 100)?;
     let fault = match mode {
-        Some(mode) => run_script(alloc, &mut reader, &mut writer, 2, mode).err(),
+        Some(mode) => run_script(alloc, &mut reader, &mut writer, Setup { cpus: 2, mode }).err(),
         None => check_script(alloc, &mut reader, &mut writer).err(),
     };
     Ok((fault, writer.bytes))

@@ -1,7 +1,7 @@
 //! Scripts and transcripts that are read in pieces and written byte by byte, where each read and each write fails once; and lines at the
 //! limit of their length.
 
-use engine::{Mode, RunFault, check_script, run_script};
+use engine::{Mode, RunFault, Setup, check_script, run_script};
 use std::alloc::{AllocError, Global};
 use std::process::Abort;
 use std::test::Fail;
@@ -18,6 +18,16 @@ const TRANSCRIPT: &[u8] =
     b"0 mmap 8192 rw => at 0x10000\n0 store 0x10ff8 8 0x1122334455667788 => done\n1 load 0x10ffc 4 => value 0x11223344\n1 load 0x10ffc 8 => bad access\n";
 
 const VERDICT: &[u8] = b"ok 4\n";
+
+const LINES: Setup = Setup {
+    cpus: 2,
+    mode: Mode::Lines,
+};
+
+const ENTRIES: Setup = Setup {
+    cpus: 2,
+    mode: Mode::Transcript,
+};
 
 /// No case writes more bytes.
 pub const MOST: usize = 1_000;
@@ -104,8 +114,8 @@ fn played(
         most: case.most,
     };
     let fault = match job {
-        Job::Lines => run_script(alloc, &mut reader, &mut writer, 2, Mode::Lines).err(),
-        Job::Transcript => run_script(alloc, &mut reader, &mut writer, 2, Mode::Transcript).err(),
+        Job::Lines => run_script(alloc, &mut reader, &mut writer, LINES).err(),
+        Job::Transcript => run_script(alloc, &mut reader, &mut writer, ENTRIES).err(),
         Job::Check => check_script(alloc, &mut reader, &mut writer).err(),
     };
     Ok((fault, writer.bytes, reader.reads, writer.writes))
@@ -237,7 +247,7 @@ fn out_of_memory_leaves_whole_lines(rt: HostRuntime) -> Result<(), Fail> {
         writes: 0,
         most: MOST,
     };
-    let outcome = run_script(rt.alloc(), &mut reader, &mut writer, 2, Mode::Lines);
+    let outcome = run_script(rt.alloc(), &mut reader, &mut writer, LINES);
     let written = writer.bytes.as_slice();
     if outcome == Err(RunFault::NoMemory) {
         assert!(rt; OUTPUT.starts_with(written));
@@ -256,7 +266,7 @@ fn run_line(alloc: Global, front: &[u8], size: usize, end: &[u8]) -> Result<(), 
     script.extend_from_slice(end)?;
     let mut reader = script.as_slice();
     let mut writer = room(alloc)?;
-    run_script(alloc, &mut reader, &mut writer, 2, Mode::Lines)
+    run_script(alloc, &mut reader, &mut writer, LINES)
 }
 
 #[test]
@@ -299,8 +309,8 @@ fn endless(
     };
     let mut writer = room(alloc)?;
     let fault = match job {
-        Job::Lines => run_script(alloc, &mut reader, &mut writer, 2, Mode::Lines).err(),
-        Job::Transcript => run_script(alloc, &mut reader, &mut writer, 2, Mode::Transcript).err(),
+        Job::Lines => run_script(alloc, &mut reader, &mut writer, LINES).err(),
+        Job::Transcript => run_script(alloc, &mut reader, &mut writer, ENTRIES).err(),
         Job::Check => check_script(alloc, &mut reader, &mut writer).err(),
     };
     Ok((fault, reader.reads))

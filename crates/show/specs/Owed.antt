@@ -6,7 +6,7 @@ use Rattle.std.specs.Ordering.{nat_cmp}
 use Rattle.std.specs.FinSet.{FinSet, empty, len, remove}
 use Rattle.mig_base.specs.Texts.{hexadecimal}
 use Rattle.mig_base.specs.PageSets.{IsFirstPage}
-use Rattle.mig_base.specs.declared.TheConstants.{PAGE_SIZE}
+use Rattle.foundation.specs.declared.TheConstants.{PAGE_SIZE}
 use Rattle.mig_model.specs.Migration.{World}
 use Rattle.mig_model.specs.Owed.{home, origins}
 use Rattle.mig_model.specs.Views.{owed_left}

@@ -32,7 +32,7 @@ pub(crate) fn page_of(command: Command) -> Option<PageNo> {
     }
 }
 
-/// The line of a script that has to come next for a processor that sleeps on an owed page.
+/// The line of a script that must come next for a processor that sleeps on an owed page.
 fn line_for_owed(world: &World, survey: &Survey, page: PageNo, origin: PageNo) -> &'static str {
     if survey.arrived.contains(origin) {
         // Nothing is installed while an event is unread.
@@ -63,7 +63,7 @@ fn line_for_owed(world: &World, survey: &Survey, page: PageNo, origin: PageNo) -
     line_for_fault(world, survey, page)
 }
 
-/// The line of a script that has to come next for a processor whose fault the destination's handler has not resolved. It resolves none
+/// The line of a script that must come next for a processor whose fault the destination's handler has not resolved. It resolves none
 /// while an event is unread.
 fn line_for_fault(world: &World, survey: &Survey, page: PageNo) -> &'static str {
     if survey.destination.has_unread(page) || world.destination_events() > 0 {
@@ -82,7 +82,7 @@ fn line_at_source(world: &World, survey: &Survey, page: PageNo) -> &'static str 
     }
 }
 
-/// The line of a script that has to come next for a processor that sleeps on a page.
+/// The line of a script that must come next for a processor that sleeps on a page.
 pub(crate) fn line_for(world: &World, survey: &Survey, page: PageNo) -> &'static str {
     if matches!(world.phase(), WorldPhase::Switching) {
         return "the package";

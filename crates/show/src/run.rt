@@ -72,29 +72,31 @@ fn show_input<W: Write>(
     Ok(true)
 }
 
-/// Reads a script, makes the steps of its lines up to the one that is asked for on a new world of `cpus` processors, 1 to 16, and writes
-/// facts of that world, each in a line of its own or all in one JSON object: its progress, and then those that are asked for. Lines after it
-/// are not run, right or wrong. False, and nothing is written, if the script has fewer lines.
-///
-/// A wrong line ends it as it ends [`run_script`](engine::run_script). The whole input is read before the first step, and nothing is written
-/// before all facts are known: at any fault but a write fault nothing is written.
-pub fn show_script<R: Read, W: Write>(
-    alloc: Global,
-    reader: &mut R,
-    writer: &mut W,
-    cpus: u8,
-    asked: Asked,
-) -> Result<bool, RunFault>
-    requires low { 1 ≤ cpus }
-    requires high { cpus ≤ 16 }
-    ensures ok { IfOk result (λ found. IfSome (R.remaining reader.old) (λ input.
-        Shows found (first_world cpus) asked input (W.contents writer.old)
-        (W.contents writer.new))) }
-    ensures fault { IfErr result (λ fault. IfSome (R.remaining reader.old) (λ input.
-        ShowStops (first_world cpus) asked input fault (W.contents writer.old)
-        (W.contents writer.new))) }
-{
-    let mut input = Vec::new(alloc);
-    read_whole(reader, &mut input)?;
-    show_input(alloc, &input, writer, cpus, asked)
+impl Asked {
+    /// Reads a script, makes the steps of its lines up to the one that is asked for on a new world of `cpus` processors, 1 to 16, and
+    /// writes facts of that world, each in a line of its own or all in one JSON object: its progress, and then those that are asked for.
+    /// Lines after it are not run, right or wrong. False, and nothing is written, if the script has fewer lines.
+    ///
+    /// A wrong line ends it as it ends [`run_script`](engine::run_script). The whole input is read before the first step, and nothing is
+    /// written before all facts are known: at any fault but a write fault nothing is written.
+    pub fn show_script<R: Read, W: Write>(
+        self,
+        alloc: Global,
+        reader: &mut R,
+        writer: &mut W,
+        cpus: u8,
+    ) -> Result<bool, RunFault>
+        requires low { 1 ≤ cpus }
+        requires high { cpus ≤ 16 }
+        ensures ok { IfOk result (λ found. IfSome (R.remaining reader.old) (λ input.
+            Shows found (first_world cpus) self input (W.contents writer.old)
+            (W.contents writer.new))) }
+        ensures fault { IfErr result (λ fault. IfSome (R.remaining reader.old) (λ input.
+            ShowStops (first_world cpus) self input fault (W.contents writer.old)
+            (W.contents writer.new))) }
+    {
+        let mut input = Vec::new(alloc);
+        read_whole(reader, &mut input)?;
+        show_input(alloc, &input, writer, cpus, self)
+    }
 }

@@ -9,9 +9,9 @@ use Rattle.mig_base.specs.declared.command.Reply.{Reply}
 use Rattle.mig_base.specs.declared.command.Reply.TheVariants.{Value, Done, At, Segv, BadAccess, Refused}
 use Rattle.mig_base.specs.declared.command.Entry.{Entry}
 use Rattle.mig_base.specs.Commands.{is_access, page_of}
-use Rattle.mig_base.specs.Ranges.{in_range}
-use Rattle.mig_base.proofs.RangeLemmas.{in_range-true, in_range_bounds}
-use Rattle.mig_base.proofs.TestLemmas.{eqb-self}
+use Rattle.foundation.specs.Ranges.{in_range}
+use Rattle.foundation.proofs.RangeLemmas.{in_range-true, in_range_bounds}
+use Rattle.foundation.proofs.TestLemmas.{eqb-self}
 use Rattle.mig_base.specs.Flat.{Cell, IsRunFrom, Memory, access_reply, after, changed, allows_load, allows_store, byte_of, is_aligned, is_width, memory_from, number_at, reply_of, write, written}
 use Rattle.mig_model.proofs.memory.CommandLemmas.{stored_form}
 use Rattle.mig_model.proofs.memory.Facts.{and_left, and_second}

@@ -1,6 +1,6 @@
 -- Slices that migrate side by side: each has two drivers, with nodes, channels and logs of its own.
 use Rattle.std.specs.Prelude.{◌≡◌, ℕ, ◌/◌, Bool, List, map}
-use Rattle.mig_base.specs.declared.TheConstants.{PAGE_SIZE}
+use Rattle.foundation.specs.declared.TheConstants.{PAGE_SIZE}
 use Rattle.mig_base.specs.declared.command.Entry.{Entry}
 use Rattle.mig_base.specs.Flat.{Memory}
 use Rattle.mig_model.specs.Host.{memory}

@@ -1,6 +1,7 @@
 //! Tests: scripts whose lines have answers, in the language of `postmig test`.
 
 use crate::{CPUS, print_fault};
+use engine::NamedScript;
 use expected::{order_part, test_script};
 use std::alloc::{AllocError, Global};
 
@@ -13,7 +14,7 @@ pub(crate) fn print_test(
     name: &str,
 ) -> Result<u64, AllocError> {
     let mut reader = test;
-    match test_script(alloc, &mut reader, text, name, CPUS) {
+    match test_script(alloc, &mut reader, text, NamedScript { name, cpus: CPUS }) {
         Ok(tested) => Ok(tested.answers),
         Err(fault) => {
             print_fault(alloc, text, Some(fault))?;

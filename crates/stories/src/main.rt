@@ -12,9 +12,9 @@ mod finished;
 
 use crate::answered::{print_test, script_of};
 use crate::finished::finish_prefixes;
-use engine::{Mode, RunFault, check_script, run_script};
+use engine::{Mode, RunFault, Setup, check_script, run_script};
 use grammar::Language;
-use lint::lint_lines;
+use lint::{Listed, lint_lines};
 use std::alloc::{AllocError, Global};
 use std::process::ExitCode;
 use std::{fs, io};
@@ -105,7 +105,7 @@ fn print_run(
     mode: Mode,
 ) -> Result<(), AllocError> {
     let mut reader = script;
-    let outcome = run_script(alloc, &mut reader, text, CPUS, mode);
+    let outcome = run_script(alloc, &mut reader, text, Setup { cpus: CPUS, mode });
     print_fault(alloc, text, outcome.err())
 }
 
@@ -124,7 +124,11 @@ fn print_listing(
     language: Language,
 ) -> Result<(), AllocError> {
     let mut reader = input;
-    let outcome = lint_lines(alloc, &mut reader, text, "-", language);
+    let listed = Listed {
+        name: "-",
+        language,
+    };
+    let outcome = lint_lines(alloc, &mut reader, text, listed);
     print_fault(alloc, text, outcome.err())
 }
 
@@ -156,7 +160,11 @@ fn printed(alloc: Global, kind: Kind, input: &[u8]) -> Result<Vec<u8>, AllocErro
 fn verdict(alloc: Global, script: &[u8]) -> io::Result<String> {
     let mut transcript = Vec::new(alloc);
     let mut reader = script;
-    let _ = run_script(alloc, &mut reader, &mut transcript, CPUS, Mode::Transcript);
+    let setup = Setup {
+        cpus: CPUS,
+        mode: Mode::Transcript,
+    };
+    let _ = run_script(alloc, &mut reader, &mut transcript, setup);
     let mut text = Vec::new(alloc);
     print_check(alloc, &mut text, &transcript)?;
     let text = String::from_utf8_lossy(alloc, &text)?;

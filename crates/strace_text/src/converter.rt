@@ -19,8 +19,8 @@ use crate::plan::Plan;
 use crate::stop::{Stop, refuse_bytes};
 use crate::text::has;
 use crate::traced::Traced;
+use foundation::NoMemory;
 use indexmap::{IndexMap, IndexSet};
-use mig_base::NoMemory;
 use std::alloc::Global;
 
 /// How a thread was made.

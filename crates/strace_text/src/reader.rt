@@ -10,8 +10,8 @@ use crate::stop::{Stop, refuse, refuse_bytes, refused};
 use crate::text::{is_same, split_at_byte};
 use crate::traced::{Traced, is_result};
 use crate::writer::Refused;
+use foundation::NoMemory;
 use indexmap::IndexMap;
-use mig_base::NoMemory;
 use std::alloc::{AllocError, Global};
 use std::mem;
 

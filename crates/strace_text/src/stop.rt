@@ -1,6 +1,6 @@
 //! Why a line of a trace was not taken.
 
-use mig_base::NoMemory;
+use foundation::NoMemory;
 use std::alloc::{AllocError, AllocFailed, Global};
 use std::fmt;
 use std::fmt::Write;

@@ -5,8 +5,8 @@ use crate::plan::Plan;
 use crate::reader::{Trace, read_trace};
 use crate::stop::Stop;
 use crate::traced::Traced;
+use foundation::NoMemory;
 use indexmap::{IndexMap, IndexSet};
-use mig_base::NoMemory;
 use std::alloc::Global;
 
 /// A line of a trace that cannot be read, with the reason.

@@ -9,7 +9,7 @@ use std::alloc::Global;
 use std::sync::Wait;
 use std::test::Fail;
 use std::thread::Threads;
-use threads::{Run, run_threads};
+use threads::{Run, Scenario, run_threads};
 
 /// A run, made once more if it was refused memory and has written nothing.
 fn run<R: Threads + Wait + Sync>(
@@ -22,8 +22,13 @@ fn run<R: Threads + Wait + Sync>(
     requires low { 1 ≤ cpus }
     requires high { cpus ≤ 16 }
 {
-    match run_threads(rt, alloc, out, cpus, 8, cut) {
-        Err(RunFault::NoMemory) if out.is_empty() => run_threads(rt, alloc, out, cpus, 8, cut),
+    let scenario = Scenario {
+        cpus,
+        calls: 8,
+        cut,
+    };
+    match run_threads(rt, alloc, out, scenario) {
+        Err(RunFault::NoMemory) if out.is_empty() => run_threads(rt, alloc, out, scenario),
         ended => ended,
     }
 }

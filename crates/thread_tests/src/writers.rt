@@ -7,7 +7,7 @@ use std::io::Write;
 use std::sync::Wait;
 use std::test::Fail;
 use std::thread::Threads;
-use threads::run_threads;
+use threads::{Scenario, run_threads};
 
 /// Takes one byte at a time, and no more than this many. Then it fails, or takes none.
 #[derive(Drop)]
@@ -52,7 +52,12 @@ fn run_once<R: Threads + Wait + Sync>(
     alloc: Global,
     out: &mut Narrow,
 ) -> Result<bool, RunFault> {
-    match run_threads(rt, alloc, out, 1, 1, false) {
+    let scenario = Scenario {
+        cpus: 1,
+        calls: 1,
+        cut: false,
+    };
+    match run_threads(rt, alloc, out, scenario) {
         Ok(run) => Ok(run.fault.is_none()),
         Err(fault) => Err(fault),
     }

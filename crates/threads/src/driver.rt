@@ -20,6 +20,13 @@ pub(crate) struct Plan {
     pub cut: Option<Cut>,
 }
 
+/// What the threads of a run share.
+#[derive(Clone, Copy)]
+pub(crate) struct Shared<'a> {
+    pub rig: &'a Rig,
+    pub course: &'a Course,
+}
+
 /// When the channel breaks.
 #[derive(Clone, Copy, PartialEq, Eq)]
 pub(crate) enum Cut {
@@ -36,18 +43,18 @@ pub(crate) enum Cut {
 pub(crate) fn run_all<R: Threads + Wait + Sync>(
     rt: &R,
     alloc: Global,
-    rig: &Rig,
-    course: &Course,
+    shared: Shared<'_>,
     seats: Vec<CpuSeat>,
     plan: Plan,
 ) -> Option<(Vec<CpuSeat>, Option<EpochClaims>)> {
+    let Shared { rig, course } = shared;
     thread::scope(thread::scope_env(), rt, move |scope| {
         let cpus = seats.len();
         let mut back = Vec::with_capacity(alloc, cpus).ok()?;
         let mut threads = Vec::with_capacity(alloc, cpus).ok()?;
         let source = scope.spawn(move || rig.source_worker(rt, course));
         let dest = scope.spawn(move || rig.dest_worker(rt, course));
-        let sender = scope.spawn(move || send_pages(rt, alloc, rig, course));
+        let sender = scope.spawn(move || send_pages(rt, alloc, shared));
         if source.is_err() || dest.is_err() || sender.is_err() || rig.start(rt).is_err() {
             course.end();
             return None;

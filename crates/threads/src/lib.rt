@@ -17,4 +17,4 @@ mod sending;
 mod summary;
 
 pub use crate::course::Asked;
-pub use crate::run::{Run, run_threads, run_world};
+pub use crate::run::{Run, Scenario, run_threads, run_world};

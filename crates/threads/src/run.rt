@@ -6,7 +6,7 @@ ghost use Rattle.mig_base.specs.Flat.{IsFlatRun};
 ghost use Rattle.threads.specs.Report.{AreFrom, IsHistory, Reports, ThreadsStop};
 
 use crate::course::{Asked, Course};
-use crate::driver::{Cut, Plan, run_all};
+use crate::driver::{Cut, Plan, Shared, run_all};
 use crate::summary::{are_whole, claims_in, print_run};
 use engine::RunFault;
 use engine::line_runner::write_out;
@@ -30,35 +30,47 @@ pub struct Run {
     pub asked: Asked,
 }
 
-/// Runs a guest of `cpus` processors, 1 to 16, through a whole migration, each processor and each worker in a thread of its own. Each
-/// processor makes a map call, `calls` stores and `calls` loads; with `cut` the channel breaks once. Returns when all threads have ended.
+/// What a run does.
+#[derive(Clone, Copy)]
+pub struct Scenario {
+    /// How many processors the guest has, 1 to 16.
+    pub cpus: u8,
+    /// How many stores each of them makes, and how many loads, after a map call.
+    pub calls: u16,
+    /// Whether the channel breaks once.
+    pub cut: bool,
+}
+
+/// Runs a guest through a whole migration, each processor and each worker in a thread of its own. Returns when all threads have ended.
 ///
 /// The only fault is `NoMemory`: memory was refused, or a thread could not be started.
 pub fn run_world<R: Threads + Wait + Sync>(
     rt: &R,
     alloc: Global,
-    cpus: u8,
-    calls: u16,
-    cut: bool,
+    scenario: Scenario,
 ) -> Result<Run, RunFault>
-    requires low { 1 ≤ cpus }
-    requires high { cpus ≤ 16 }
-    ensures all { IfOk result (λ run. length run.seats.items ≡ cpus) }
-    ensures each { IfOk result (λ run. AreFrom 0 calls run.seats.items) }
+    requires low { 1 ≤ scenario.cpus }
+    requires high { scenario.cpus ≤ 16 }
+    ensures all { IfOk result (λ run. length run.seats.items ≡ scenario.cpus) }
+    ensures each { IfOk result (λ run. AreFrom 0 scenario.calls run.seats.items) }
     ensures flat { IfOk result (λ run. IsFlatRun run.world.transcript) }
     ensures history { IfOk result (λ run. run.fault ≡ None → IsHistory run.seats.items run.world) }
     ensures err { IfErr result (λ fault. fault ≡ OutOfMemory) }
 {
-    let (rig, seats) = seated(alloc, cpus)?;
+    let (rig, seats) = seated(alloc, scenario.cpus)?;
     let plan = Plan {
-        stores: calls,
-        cut: cut_for(cut, cpus),
+        stores: scenario.calls,
+        cut: cut_for(scenario),
     };
     let course = Course::new();
-    let Some((seats, sent)) = run_all(rt, alloc, &rig, &course, seats, plan) else {
+    let shared = Shared {
+        rig: &rig,
+        course: &course,
+    };
+    let Some((seats, sent)) = run_all(rt, alloc, shared, seats, plan) else {
         return Err(RunFault::NoMemory);
     };
-    if !are_whole(&seats, cpus, calls) {
+    if !are_whole(&seats, scenario.cpus, scenario.calls) {
         return Err(RunFault::NoMemory);
     }
     let asked = course.asked();
@@ -86,18 +98,16 @@ pub fn run_threads<R: Threads + Wait + Sync, W: Write>(
     rt: &R,
     alloc: Global,
     writer: &mut W,
-    cpus: u8,
-    calls: u16,
-    cut: bool,
+    scenario: Scenario,
 ) -> Result<Run, RunFault>
-    requires low { 1 ≤ cpus }
-    requires high { cpus ≤ 16 }
-    ensures ok { IfOk result (λ run. Reports cpus calls run.seats.items run.world run.fault
+    requires low { 1 ≤ scenario.cpus }
+    requires high { scenario.cpus ≤ 16 }
+    ensures ok { IfOk result (λ run. Reports scenario.cpus scenario.calls run.seats.items run.world
+        run.fault (W.contents writer.old) (W.contents writer.new)) }
+    ensures fault { IfErr result (λ fault. ThreadsStop scenario.cpus scenario.calls fault
         (W.contents writer.old) (W.contents writer.new)) }
-    ensures fault { IfErr result (λ fault.
-        ThreadsStop cpus calls fault (W.contents writer.old) (W.contents writer.new)) }
 {
-    let run = run_world(rt, alloc, cpus, calls, cut)?;
+    let run = run_world(rt, alloc, scenario)?;
     let mut text = String::new(alloc);
     print_run(&mut text, &run)?;
     write_out(writer, text.as_bytes())?;
@@ -105,10 +115,10 @@ pub fn run_threads<R: Threads + Wait + Sync, W: Write>(
 }
 
 /// When a run with a cut breaks the channel: right after the switch if the number of processors is odd, else once the destination runs.
-fn cut_for(cut: bool, cpus: u8) -> Option<Cut> {
-    if !cut {
+fn cut_for(scenario: Scenario) -> Option<Cut> {
+    if !scenario.cut {
         None
-    } else if cpus % 2 == 1 {
+    } else if scenario.cpus % 2 == 1 {
         Some(Cut::AfterSwitch)
     } else {
         Some(Cut::AfterRun)

@@ -2,9 +2,8 @@
 
 ghost use Rattle.pusher.specs.Seats.{IsSeatOf};
 
-use crate::course::Course;
+use crate::driver::Shared;
 use pusher::{ClaimSeat, Claims};
-use rig::Rig;
 use std::alloc::Global;
 use std::sync::Wait;
 use std::thread;
@@ -31,16 +30,15 @@ impl<'a> Promise<ClaimSeat> for SeatOf<'a> {
 pub(crate) fn send_pages<R: Threads + Wait + Sync>(
     rt: &R,
     alloc: Global,
-    rig: &Rig,
-    course: &Course,
+    shared: Shared<'_>,
 ) -> Option<EpochClaims> {
     let mut last = None;
     for _ in rt.forever() {
-        if course.is_over() {
+        if shared.course.is_over() {
             return last;
         }
-        match rig.claims(rt) {
-            Ok((claims, seat)) => last = Some(send_epoch(rt, alloc, rig, course, claims, seat)),
+        match shared.rig.claims(rt) {
+            Ok((claims, seat)) => last = Some(send_epoch(rt, alloc, shared, claims, seat)),
             Err(_) => thread::yield_now(),
         }
     }
@@ -52,18 +50,17 @@ pub(crate) fn send_pages<R: Threads + Wait + Sync>(
 fn send_epoch<R: Threads + Wait + Sync>(
     rt: &R,
     alloc: Global,
-    rig: &Rig,
-    course: &Course,
+    shared: Shared<'_>,
     claims: Claims,
     mut seat: ClaimSeat,
 ) -> EpochClaims
     requires { IsSeatOf claims seat }
 {
     let seat = match claims.split(alloc, &mut seat) {
-        Ok(other) => send_shared(rt, rig, course, &claims, seat, other),
+        Ok(other) => send_shared(rt, shared, &claims, seat, other),
         Err(_) => {
-            course.lack();
-            rig.push_worker(rt, &claims, seat, course)
+            shared.course.lack();
+            shared.rig.push_worker(rt, &claims, seat, shared.course)
         }
     };
     EpochClaims { claims, seat }
@@ -72,8 +69,7 @@ fn send_epoch<R: Threads + Wait + Sync>(
 /// Sends with two seats, and joins them.
 fn send_shared<R: Threads + Wait + Sync>(
     rt: &R,
-    rig: &Rig,
-    course: &Course,
+    shared: Shared<'_>,
     claims: &Claims,
     seat: ClaimSeat,
     other: ClaimSeat,
@@ -82,6 +78,7 @@ fn send_shared<R: Threads + Wait + Sync>(
     requires other { IsSeatOf claims.now other }
     ensures { IsSeatOf claims.now result }
 {
+    let Shared { rig, course } = shared;
     thread::scope(
         thread::scope_env(),
         rt,

@@ -3,7 +3,7 @@
 //! `bench/programs` has tests with answers that are met and that differ, in the cases whose names begin with `test`, and those that are
 //! written for scripts in `run-answers`.
 
-use engine::RunFault;
+use engine::{NamedScript, RunFault};
 use expected::{Outcome, answer_script, test_script};
 use std::alloc::{AllocError, Global};
 use std::process::Abort;
@@ -59,7 +59,8 @@ fn tested_once(alloc: Global, script: &[u8], how: How) -> Result<Ended, AllocErr
         writes: 0,
         most: MOST,
     };
-    let outcome = match test_script(alloc, &mut reader, &mut writer, "t", 2) {
+    let test = NamedScript { name: "t", cpus: 2 };
+    let outcome = match test_script(alloc, &mut reader, &mut writer, test) {
         Ok(tested) => Ok(tested.outcome),
         Err(fault) => Err(fault),
     };

@@ -3,7 +3,7 @@
 //! `bench/check/explored.py` judges what is written, by the other commands.
 
 use engine::RunFault;
-use explore::{Met, Plan, Profile, Tally, meet_all, run_explore};
+use explore::{MetByAll, Plan, Profile, Tally, meet_all, run_explore};
 use schedules::{Small, WalkFault, walk_schedules};
 use std::alloc::{AllocError, Global};
 use std::io;
@@ -117,7 +117,7 @@ fn out_of_memory_leaves_whole_lines(rt: HostRuntime) -> Result<(), Fail> {
 }
 
 /// What all schedules of a small world meet, where it has at most this number of states.
-fn meet(alloc: Global, most: usize) -> Result<Met, WalkFault> {
+fn meet(alloc: Global, most: usize) -> Result<MetByAll, WalkFault> {
     let small = Small {
         cpus: 1,
         pages: 1,

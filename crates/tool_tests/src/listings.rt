@@ -4,7 +4,7 @@
 
 use engine::RunFault;
 use grammar::Language;
-use lint::lint_lines;
+use lint::{Listed, lint_lines};
 use std::alloc::{AllocError, Global};
 use std::process::Abort;
 use std::test::Fail;
@@ -72,7 +72,11 @@ fn played(
         writes: 0,
         most: case.most,
     };
-    let answer = lint_lines(alloc, &mut reader, &mut writer, "s", Language::Script);
+    let listed = Listed {
+        name: "s",
+        language: Language::Script,
+    };
+    let answer = lint_lines(alloc, &mut reader, &mut writer, listed);
     Ok((answer, writer, reader.reads))
 }
 

@@ -2,12 +2,12 @@
 //!
 //! `bench/compare/wires.py` compares the wires of many scripts with their output.
 
-use engine::{Mode, RunFault, run_script};
+use engine::{Mode, RunFault, Setup, run_script};
 use std::alloc::{AllocError, Global};
 use std::process::Abort;
 use std::test::Fail;
 use test_kit::{OneByte, Pieces};
-use wiretap::{Channel, TapFault, Taps, run_tapped};
+use wiretap::{Channel, TapFault, Taps};
 
 /// A page of zeros is sent and lost, then two are owed: one is pushed, and the other one requested.
 const SCRIPT: &[u8] = b"cpu 0 mmap 8192 rw
@@ -54,6 +54,11 @@ const URGENT: &[u8] = b"\x02\x03\x00\x00\x00\x00\x00\x02\x00\x00\x00\x04\x00\x00
 /// No case writes more bytes.
 const MOST: usize = 2_000;
 
+const LINES: Setup = Setup {
+    cpus: 2,
+    mode: Mode::Lines,
+};
+
 /// The write of each writer that fails, counted from 1, if one does: of the output, forward, back, and of the urgent wire.
 type Failing = [u32; 4];
 
@@ -96,7 +101,7 @@ fn played_once(alloc: Global, size: usize, failing: Failing) -> Result<Ended, Al
         back: writer(alloc, back)?,
         urgent: writer(alloc, urgent)?,
     };
-    let outcome = run_tapped(alloc, &mut reader, &mut output, &mut taps, 2, Mode::Lines);
+    let outcome = taps.run_tapped(alloc, &mut reader, &mut output, LINES);
     let Taps {
         forward,
         back,
@@ -128,7 +133,7 @@ fn printed(alloc: Global) -> Result<Vec<u8>, AllocError> {
     for _ in 0..2 {
         let mut output = writer(alloc, 0)?;
         let mut reader = SCRIPT;
-        if run_script(alloc, &mut reader, &mut output, 2, Mode::Lines).is_ok() {
+        if run_script(alloc, &mut reader, &mut output, LINES).is_ok() {
             return Ok(output.bytes);
         }
     }

@@ -3,7 +3,7 @@
 ghost use Rattle.std.specs.Prelude.{◌≡◌, IfOk};
 ghost use Rattle.trace_audit.specs.Traces.{refused_text};
 
-use mig_base::NoMemory;
+use foundation::NoMemory;
 use std::alloc::Global;
 use std::fmt::Write;
 use strace_text::Refused;

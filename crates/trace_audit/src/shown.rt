@@ -5,8 +5,8 @@ ghost use Rattle.std.specs.List.{before_first, position_or_len};
 ghost use Rattle.std.specs.Str.Parse.{digits_value};
 ghost use Rattle.trace_audit.specs.ShownText.{HasNo, is_no_digit, is_of_log, names_line, shown_line, shown_one, shown_said, shown_text, shown_word};
 
+use foundation::NoMemory;
 use memchr::memchr;
-use mig_base::NoMemory;
 use std::alloc::Global;
 use std::fmt::Write;
 

@@ -11,7 +11,7 @@ use call_log::LogFault;
 use call_log::input::write_out;
 use clap::ArgMatches;
 use clap::error::ErrorKind;
-use mig_base::{NoMemory, PAGE_SIZE};
+use foundation::{NoMemory, PAGE_SIZE};
 use std::alloc::Global;
 use std::env::Env;
 use std::io::Stdout;

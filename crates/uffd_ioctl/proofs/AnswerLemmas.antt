@@ -11,11 +11,11 @@ use Rattle.mig_base.specs.declared.command.Errno.TheVariants.{Einval}
 use Rattle.mig_base.specs.declared.command.Command.TheVariants.{Load, Store}
 use Rattle.mig_base.specs.declared.command.Reply.{Reply}
 use Rattle.mig_base.specs.declared.command.Reply.TheVariants.{Value, Done, Segv, BadAccess, Refused}
-use Rattle.mig_base.specs.Ranges.{rounded}
+use Rattle.foundation.specs.Ranges.{rounded}
 use Rattle.mig_base.specs.Bytes.{contents, overwrite, little_endian, low_bytes}
 use Rattle.mig_base.specs.Flat.{Cell, byte_of, is_aligned, allows_load, allows_store, access_reply, number_at, munmap_reply, reply_of}
 use Rattle.mig_base.proofs.ByteLemmas.{length-overwrite}
-use Rattle.mig_base.proofs.TestLemmas.{eqb-self, eqb-above}
+use Rattle.foundation.proofs.TestLemmas.{eqb-self, eqb-above}
 use Rattle.mig_model.specs.Host.{Host, byte_in, memory, host_changed, IsSound}
 use Rattle.mig_model.proofs.memory.NumberLemmas.{aligned_inside, number_at-bytes, number_at-zeros}
 use Rattle.mig_model.proofs.memory.HostLemmas.{memory-none, memory-some, IsSound-put, get-put}

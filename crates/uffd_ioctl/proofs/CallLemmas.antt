@@ -15,16 +15,16 @@ use Rattle.mig_base.specs.declared.command.Reply.{Reply}
 use Rattle.mig_base.specs.declared.command.Reply.TheVariants.{Done, At, Refused}
 use Rattle.mig_base.specs.declared.message.Message.{Message}
 use Rattle.mig_base.specs.declared.message.Message.TheVariants.{Unmap, Remove}
-use Rattle.mig_base.specs.Ranges.{in_range, lesser, none_below, pages_of, rounded}
+use Rattle.foundation.specs.Ranges.{in_range, lesser, none_below, pages_of, rounded}
 use Rattle.mig_base.specs.Pages.{set_range, remove_range, moved_range}
 use Rattle.mig_base.specs.Sets.{without, moved_set}
 use Rattle.mig_base.specs.Flat.{is_page_start, is_all_mapped, mmap_reply, mremap_reply, dontneed_reply, reply_of}
-use Rattle.mig_base.proofs.RangeLemmas.{none_below_tells, none_below-from}
+use Rattle.foundation.proofs.RangeLemmas.{none_below_tells, none_below-from}
 use Rattle.mig_base.proofs.SetLemmas.{same_members, member_without}
 use Rattle.mig_base.proofs.ReplyLemmas.{mmap_inside, mremap_told}
 use Rattle.mig_model.specs.Host.{Host, memory, host_changed, host_dropped, IsSound}
 use Rattle.mig_base.specs.Commands.{is_access}
-use Rattle.mig_base.proofs.TestLemmas.{at_or_below, positive, none_is_some}
+use Rattle.foundation.proofs.TestLemmas.{at_or_below, positive, none_is_some}
 use Rattle.mig_base.specs.Userfault.{Object, mode_at, is_registered, unregistered, moved_modes, is_watched}
 use Rattle.mig_model.specs.Space.{Space, IsSoundSpace, message_if, remap_messages, call_messages, modes_after, protected_after, all_queued, called, queued_by}
 use Rattle.mig_model.proofs.memory.CommandLemmas.{remapped_place}

@@ -7,10 +7,11 @@ use Rattle.mig_base.specs.declared.TheConstants.{HIGH_PAGE}
 use Rattle.mig_base.specs.declared.Prot.{Prot}
 use Rattle.mig_base.specs.declared.command.Place.{Place}
 use Rattle.mig_base.specs.declared.command.Reply.TheVariants.{At}
-use Rattle.mig_base.specs.Ranges.{in_range, pages_of, rounded, free_place}
+use Rattle.foundation.specs.Ranges.{in_range, pages_of, rounded}
+use Rattle.mig_base.specs.FreePlaces.{free_place}
 use Rattle.mig_base.specs.Pages.{remove_range}
 use Rattle.mig_base.specs.Flat.{is_mapped, overlaps, mmap_reply, mremap_reply}
-use Rattle.mig_base.proofs.RangeLemmas.{run_found}
+use Rattle.mig_base.proofs.FreePlaceLemmas.{run_found}
 use Rattle.mig_base.proofs.PageLemmas.{same_pages, get-remove_range}
 use Rattle.mig_base.proofs.ReplyLemmas.{IsRemapped, mmap_inside, mremap_told}
 use Rattle.mig_base.proofs.ReplyLemmas.IsWhere.{Shrunk, Grew, Moved, Told}

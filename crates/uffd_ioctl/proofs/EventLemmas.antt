@@ -6,10 +6,10 @@ use Rattle.std.proofs.lemmas.Bool.Decides.{nat_tests}
 use Rattle.std.proofs.lemmas.Bool.{not-false}
 use Rattle.mig_base.specs.declared.TheConstants.{HIGH_PAGE}
 use Rattle.mig_base.specs.declared.message.Message.{Message}
-use Rattle.mig_base.specs.Ranges.{in_range, lesser}
+use Rattle.foundation.specs.Ranges.{in_range, lesser}
 use Rattle.mig_base.specs.Sets.{moved_set}
-use Rattle.mig_base.proofs.RangeLemmas.{none_below_tells, none_below-from}
-use Rattle.mig_base.proofs.TestLemmas.{or_first, or_second}
+use Rattle.foundation.proofs.RangeLemmas.{none_below_tells, none_below-from}
+use Rattle.foundation.proofs.TestLemmas.{or_first, or_second}
 use Rattle.mig_base.specs.Userfault.{Object, mode_at, is_registered, is_watched, moved_modes}
 use Rattle.mig_model.specs.Space.{message_if, remap_messages}
 use Rattle.userfault.proofs.ModeLemmas.{is_pages_where}

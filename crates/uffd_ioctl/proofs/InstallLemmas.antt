@@ -10,19 +10,19 @@ use Rattle.mig_base.specs.declared.TheConstants.{HIGH_PAGE, LOW_PAGE}
 use Rattle.mig_base.specs.declared.Prot.{Prot}
 use Rattle.mig_base.specs.declared.command.Errno.{Errno}
 use Rattle.mig_base.specs.declared.command.Errno.TheVariants.{Eagain, Eexist}
-use Rattle.mig_base.specs.Bits.{is_one}
+use Rattle.foundation.specs.Bits.{is_one}
 use Rattle.mig_base.specs.Codes.{prot_number, prot_numbered, prot_numbered-prot_number}
 use Rattle.mig_base.specs.Bytes.{zero_page}
-use Rattle.mig_base.specs.Ranges.{in_range, least_below}
+use Rattle.foundation.specs.Ranges.{in_range, least_below}
 use Rattle.mig_base.proofs.ByteLemmas.{length-zero_page}
 use Rattle.mig_base.proofs.SetLemmas.{member_inserted}
-use Rattle.mig_base.proofs.RangeLemmas.{none_below-from, none_below-not, least_below-is, least_below-none, least_below_tells, in_range-end}
+use Rattle.foundation.proofs.RangeLemmas.{none_below-from, none_below-not, least_below-is, least_below-none, least_below_tells, in_range-end}
 use Rattle.mig_model.specs.Bounds.{IsPage}
 use Rattle.mig_base.specs.Userfault.{Object, changing, is_registered}
 use Rattle.mig_model.specs.Space.{Space, IsSoundSpace}
 use Rattle.mig_model.specs.Ioctls.{put_pages, handed, installed, is_bad_range, is_one_area, same_area, same_protection, missing_run, copied, copy_errors, copy_error, zeropage_errors, zeropage_error, stop_error, wakes, put_answer, answer_put, left_by}
-use Rattle.mig_base.specs.Tests.{same_bool, is_every}
-use Rattle.mig_base.proofs.TestLemmas.{eqb-self}
+use Rattle.foundation.specs.Tests.{same_bool, is_every}
+use Rattle.foundation.proofs.TestLemmas.{eqb-self}
 use Rattle.mig_model.proofs.memory.IoctlLemmas.{CanPut, IsSoundSpace-installed, IsSoundSpace-copied, get-put_pages, every_page, none_holds, protect_told, can_put, length-handed}
 use Rattle.mig_model.proofs.memory.PageCalls.{IsCalled, copy_accepted, copy_made}
 use Rattle.mig_model.proofs.memory.Registering.{pages_again}

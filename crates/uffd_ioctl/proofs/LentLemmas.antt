@@ -26,7 +26,7 @@ use Rattle.mig_model.proofs.memory.CommandLemmas.{memory-changed}
 use Rattle.mig_model.proofs.memory.Facts.{none_absurd}
 use Rattle.mig_model.proofs.memory.HostLemmas.{memory-none, memory-some}
 use Rattle.uffd_ioctl.specs.Lent.{IsLent}
-use Rattle.mig_base.proofs.TestLemmas.{missing_none}
+use Rattle.foundation.proofs.TestLemmas.{missing_none}
 
 -- the object is enabled as before
 record SameFeatures (object new : Object) : Type 0 where

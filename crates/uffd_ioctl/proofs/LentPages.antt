@@ -5,7 +5,7 @@ use Rattle.std.specs.FinSet.{contains}
 use Rattle.std.proofs.lemmas.Bool.{cases_lt, or_parts, false_from_ne_true, not-false}
 use Rattle.std.proofs.lemmas.Bool.Decides.{nat_tests}
 use Rattle.mig_base.specs.declared.TheConstants.{HIGH_PAGE, LOW_PAGE}
-use Rattle.mig_base.specs.Tests.{first_holding}
+use Rattle.foundation.specs.Tests.{first_holding}
 use Rattle.mig_model.specs.Bounds.{IsPage}
 use Rattle.mig_model.specs.Space.{Space, IsSoundSpace}
 use Rattle.mig_base.specs.Userfault.{is_registered}

@@ -12,12 +12,13 @@ use Rattle.mig_base.specs.declared.command.Place.TheVariants.{Anywhere, Fixed, N
 use Rattle.mig_base.specs.declared.command.Reply.{Reply}
 use Rattle.mig_base.specs.declared.command.Reply.TheVariants.{At, Refused}
 use Rattle.mig_base.specs.Codes.{prot_number}
-use Rattle.mig_base.specs.Ranges.{in_range, count_below, none_below, pages_of, rounded, free_place}
+use Rattle.foundation.specs.Ranges.{in_range, count_below, none_below, pages_of, rounded}
+use Rattle.mig_base.specs.FreePlaces.{free_place}
 use Rattle.mig_base.specs.Flat.{Cell, is_mapped, mapped_count, fill, written, same_prot, has_one_prot, is_unmapped, is_all_mapped, moved, overlaps, zeros_with, is_page_start, exceeds_limit, place_refusals, first_refusal, at_place, mmap_reply, can_grow, is_bad_target, mremap_place, mremap_target, mremap_reply}
-use Rattle.mig_base.proofs.RangeLemmas.{none_below_tells, none_below-from, none_below-not, count_below-same, count_below-append, count_below-constant, count_below-blocks, in_range-true, in_range-false_below, in_range-false_above, count_below-few}
+use Rattle.foundation.proofs.RangeLemmas.{none_below_tells, none_below-from, none_below-not, count_below-same, count_below-append, count_below-constant, count_below-blocks, in_range-true, in_range-false_below, in_range-false_above, count_below-few}
 use Rattle.mig_base.proofs.PageLemmas.{count_below-contains_key}
 use Rattle.mig_base.proofs.ReplyLemmas.{IsTarget}
-use Rattle.mig_base.proofs.TestLemmas.{some_is_none, or_first, or_second, eqb-above, is_some-cond}
+use Rattle.foundation.proofs.TestLemmas.{some_is_none, or_first, or_second, eqb-above, is_some-cond}
 use Rattle.area_map.specs.Ranges.{HasOneProt}
 use Rattle.mig_model.specs.Host.{Host, memory, IsSound}
 use Rattle.mig_model.proofs.memory.HostLemmas.{cell_at, memory-at, memory-some, is_mapped-memory, mapped_count-memory}

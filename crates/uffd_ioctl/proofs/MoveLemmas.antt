@@ -8,11 +8,12 @@ use Rattle.mig_base.specs.declared.TheConstants.{HIGH_PAGE}
 use Rattle.mig_base.specs.declared.message.Message.{Message}
 use Rattle.mig_base.specs.declared.message.Message.TheVariants as message
 use Rattle.mig_base.specs.declared.message.Message.TheVariants.{Unmap}
-use Rattle.mig_base.specs.Ranges.{in_range, lesser}
+use Rattle.foundation.specs.Ranges.{in_range, lesser}
 use Rattle.mig_base.specs.Sets.{without, with_range, moved_set}
 use Rattle.mig_base.proofs.SetLemmas.{same_members, member_without, member_with_range, member_below}
-use Rattle.mig_base.proofs.TestLemmas.{and_true, or_first, or_second}
-use Rattle.mig_base.specs.Userfault.{Noted, Object, Mode, mode_at, unregistered, moved_modes, event_queued, is_registered, is_watched, changing}
+use Rattle.foundation.proofs.TestLemmas.{and_true, or_first, or_second}
+use Rattle.foundation.specs.Modes.{Mode}
+use Rattle.mig_base.specs.Userfault.{Noted, Object, mode_at, unregistered, moved_modes, event_queued, is_registered, is_watched, changing}
 use Rattle.mig_model.specs.Space.{message_if, remap_messages, all_queued}
 use Rattle.mig_model.proofs.memory.Registering.{pages_again}
 use Rattle.mig_model.proofs.memory.Facts.{queued_missing, queued_protect}

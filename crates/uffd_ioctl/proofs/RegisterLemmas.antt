@@ -10,10 +10,10 @@ use Rattle.mig_base.specs.declared.TheConstants.{HIGH_PAGE}
 use Rattle.mig_base.specs.declared.Area.{Area}
 use Rattle.mig_base.specs.declared.Prot.{Prot}
 use Rattle.mig_base.specs.declared.command.Errno.{Errno}
-use Rattle.mig_base.specs.Ranges.{in_range}
+use Rattle.foundation.specs.Ranges.{in_range}
 use Rattle.mig_base.specs.Sets.{without}
 use Rattle.mig_base.proofs.SetLemmas.{same_members, member_below}
-use Rattle.mig_base.proofs.TestLemmas.{or_first, or_second}
+use Rattle.foundation.proofs.TestLemmas.{or_first, or_second}
 use Rattle.area_map.specs.Areas.{AreRuns, pages_in, prot_in}
 use Rattle.area_map.proofs.AreaLemmas.{no_area, runs_at}
 use Rattle.area_map.proofs.MoveLemmas.{one_more}
@@ -21,7 +21,8 @@ use Rattle.area_map.proofs.ViewLemmas.{get-pages_in}
 use Rattle.page_table.specs.Views.{Pages}
 use Rattle.userfault.proofs.ModeLemmas.{is_pages_where}
 use Rattle.mig_model.specs.Host.{IsSound}
-use Rattle.mig_base.specs.Userfault.{Object, Mode, fresh_object, enabled_with, is_registered, has_modes, registered_where, unregistered}
+use Rattle.foundation.specs.Modes.{Mode}
+use Rattle.mig_base.specs.Userfault.{Object, fresh_object, enabled_with, is_registered, has_modes, registered_where, unregistered}
 use Rattle.mig_model.specs.Space.{Space, IsSoundSpace}
 use Rattle.mig_model.specs.Ioctls.{event_features, mode_of, left_by, is_mapped_in, registered_in, unregistered_in, protected_in}
 use Rattle.mig_model.proofs.memory.Registering.{past_none}

@@ -7,13 +7,13 @@ use Rattle.std.proofs.lemmas.Bool.Decides.{nat_tests}
 use Rattle.std.proofs.lemmas.Bool.{ltb-true}
 use Rattle.mig_base.specs.declared.TheConstants.{HIGH_PAGE}
 use Rattle.mig_base.specs.declared.Prot.{Prot}
-use Rattle.mig_base.specs.Ranges.{in_range}
+use Rattle.foundation.specs.Ranges.{in_range}
 use Rattle.mig_base.specs.Pages.{set_range, remove_range, moved_range}
 use Rattle.mig_base.specs.Sets.{without, moved_set}
-use Rattle.mig_base.proofs.RangeLemmas.{in_range_tells}
+use Rattle.foundation.proofs.RangeLemmas.{in_range_tells}
 use Rattle.mig_base.proofs.PageLemmas.{same_pages, get-set_range, get-remove_range, get-moved_range}
 use Rattle.mig_base.proofs.SetLemmas.{member_without}
-use Rattle.mig_base.proofs.TestLemmas.{and_not, cond_false}
+use Rattle.foundation.proofs.TestLemmas.{and_not, cond_false}
 use Rattle.userfault.proofs.ModeLemmas.{is_pages_where}
 use Rattle.area_map.specs.Ranges.{HasOneProt}
 

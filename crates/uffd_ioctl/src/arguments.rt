@@ -1,7 +1,7 @@
 //! The arguments of a userfault object's calls: ranges of whole pages, and words of flags.
 
 ghost use Rattle.std.specs.Prelude.{◌≡◌, ◌+◌, ◌/◌, ◌<◌, ◌≤◌, ◌&&◌, false};
-ghost use Rattle.mig_base.specs.Bits.{is_one};
+ghost use Rattle.foundation.specs.Bits.{is_one};
 ghost use Rattle.mig_base.specs.declared.TheConstants.{HIGH_PAGE};
 ghost use Rattle.mig_model.specs.Ioctls as table;
 ghost use Rattle.userfault.specs.Modes as modes;

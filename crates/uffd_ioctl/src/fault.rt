@@ -53,7 +53,7 @@ pub struct Copied {
 }
 
 /// Why UFFDIO_COPY or UFFDIO_ZEROPAGE stopped, and what it did before: the pages that it put stay, and those who sleep on them
-/// have to be woken, as `wake` says.
+/// must be woken, as `wake` says.
 #[derive(Clone, Copy, Debug, PartialEq, Eq, Error)]
 #[error("{fault} after {copied} bytes")]
 pub struct CopyFault {

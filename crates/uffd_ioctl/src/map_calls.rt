@@ -1,7 +1,7 @@
 //! What the map calls answer. It depends on the areas of a host alone, not on the bytes of its pages.
 
 ghost use Rattle.std.specs.Prelude.{◌≡◌, ℕ, ◌+◌, ◌%◌, ◌<◌, ◌≤◌, ◌∷◌, Bool, true, false, nat_lt, nat_le, [], ◌==◌, Some, None, IfNone, IsTrue, ◌↔◌};
-ghost use Rattle.mig_base.specs.Ranges.{pages_of, rounded};
+ghost use Rattle.foundation.specs.Ranges.{pages_of, rounded};
 ghost use Rattle.mig_base.specs.Flat as flat;
 ghost use Rattle.mig_base.specs.declared.command.Errno.TheVariants.{Einval};
 ghost use Rattle.mig_base.specs.declared.command.Command.TheVariants.{Mmap, Mremap, DontNeed};

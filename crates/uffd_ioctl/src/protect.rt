@@ -3,7 +3,7 @@
 ghost use Rattle.std.specs.Prelude.{◌≡◌, ℕ, ◌+◌, ◌≤◌, ◌&&◌, ◌||◌, not, true, if◌then◌else◌};
 ghost use Rattle.std.specs.FinMap as map;
 ghost use Rattle.std.specs.FinSet as set;
-ghost use Rattle.mig_base.specs.Ranges.{in_range};
+ghost use Rattle.foundation.specs.Ranges.{in_range};
 ghost use Rattle.mig_base.specs.declared.TheConstants.{HIGH_PAGE};
 
 use mig_base::Run;

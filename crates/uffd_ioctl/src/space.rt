@@ -64,7 +64,7 @@ impl Space {
         }
     }
 
-    /// A space with these areas and present pages. Each present page has to be mapped, and none write-protected. With a mode of 1 to 3, in
+    /// A space with these areas and present pages. Each present page must be mapped, and none write-protected. With a mode of 1 to 3, in
     /// the flags of UFFDIO_REGISTER, the object is enabled for the three events and all mapped pages are registered in that mode; with
     /// mode 0 the object is not enabled. No other mode is allowed.
     ///

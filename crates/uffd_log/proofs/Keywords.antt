@@ -2,7 +2,7 @@
 use Rattle.std.proofs.Common.{◌≡◌, ℕ, List, [], ◌∷◌, refl, ap, ◌∙◌, sym, cond, true, false, Bool}
 use Rattle.std.specs.Prelude.{nat_lt, ◌==◌, ◌&&◌, ◌||◌, not}
 use Rattle.std.specs.Str.{bytes_eq}
-use Rattle.mig_base.specs.Tests.{is_empty}
+use Rattle.foundation.specs.Tests.{is_empty}
 use Rattle.uffd_log.specs.declared.keyword.Keyword.{Keyword}
 use Rattle.uffd_log.specs.declared.keyword.Keyword.TheVariants as key
 use Rattle.uffd_log.specs.Words.{keyword_text}

@@ -10,45 +10,12 @@ use Rattle.uffd_log.specs.declared.token.Token.TheVariants.{Key, Number, Minus, 
 use Rattle.memchr.specs.Find.{IsFirstByte, is_byte}
 use Rattle.uffd_log.specs.declared.line.Line.{Line}
 use Rattle.uffd_log.specs.Lines.{line_from, Spells}
-use Rattle.uffd_log.proofs.Words.{cut_at, none_of, others_before}
-use Rattle.uffd_log.specs.Words.{words_of, HasNone, Digits, IsNumber, IsMinus, IsDescriptor, keyword_text, IsToken, AreTokens}
+use Rattle.uffd_log.specs.Words.{words_of, IsMinus, IsDescriptor, keyword_text, IsToken, AreTokens}
+use Rattle.words.specs.Words.{HasNone, IsNumber}
+use Rattle.words.proofs.Bytes.{cut_at, none_of, others_before}
+use Rattle.words.proofs.Numbers.{BeginsWithDigit, number_first, one_number}
+use Rattle.words.proofs.Tokens.{one_list}
 use Rattle.uffd_log.proofs.Keywords.{is_fine, keyword_fine, one_keyword}
-
--- no decimal number begins with 0x
-no_mark : (text : List ℕ) (n : ℕ) → Digits 10 20 (48 ∷ 120 ∷ text) n → ⊥
-no_mark text n d = absurd (omega (arith, d.each.1.0))
-
-pub one_number : (w : List ℕ) (m n : ℕ) → IsNumber w m → IsNumber w n → m ≡ n
-one_number w m n p q = elim p.1 [
-  | inl a ↦ elim q.1 [
-    | inl b ↦ sym a.value ∙ b.value
-    | inr b ↦ absurd (no_mark b.0 m (subst (λ (t : List ℕ). Digits 10 20 t m) b.1 a))
-  ]
-  | inr a ↦ elim q.1 [
-    | inl b ↦ absurd (no_mark a.0 n (subst (λ (t : List ℕ). Digits 10 20 t n) a.1 b))
-    | inr b ↦ sym a.2.value ∙ ap (λ (t : List ℕ). digits_value 16 (drop 2 t)) (sym a.1 ∙ b.1) ∙ b.2.value
-  ]
-]
-
--- the first byte of a number is a digit
-digit_first : (b : ℕ) → digit_value b < 10 → (48 ≤ b) × (b < 58)
-digit_first b lt = (grind (arith, nat_tests), grind (arith, nat_tests))
-
--- the word is not empty, and its first byte is a digit
-BeginsWithDigit : List ℕ → Type 0
-BeginsWithDigit word = (b : ℕ) × (bs : List ℕ) × (word ≡ b ∷ bs) × (48 ≤ b) × (b < 58)
-
-decimal_first : (w : List ℕ) (n : ℕ) → Digits 10 20 w n → BeginsWithDigit w
-unfolding BeginsWithDigit
-decimal_first [] n d = absurd (omega (arith, d.some))
-decimal_first (b ∷ bs) n d = (b, bs, refl, (digit_first b d.each.0).0, (digit_first b d.each.0).1)
-
-number_first : (w : List ℕ) (n : ℕ) → IsNumber w n → BeginsWithDigit w
-unfolding BeginsWithDigit
-number_first w n h = elim h.1 [
-  | inl d ↦ decimal_first w n d
-  | inr d ↦ (48, 120 ∷ d.0, d.1, lit≤ tt, lit≤ tt)
-]
 
 descriptor_first : (w : List ℕ) (on : Descriptor) → IsDescriptor w on → BeginsWithDigit w
 unfolding BeginsWithDigit
@@ -170,15 +137,6 @@ one_token Text (On b) w p q = absurd (p.0.descriptor b q)
 one_token Text Error w p q = absurd (p.1 q.1)
 one_token Text Text w p q = refl
 
-pub one_list : (ss ts : List Token) (ws : List (List ℕ)) → AreTokens ss ws → AreTokens ts ws → ss ≡ ts
-one_list [] [] ws p q = refl
-one_list [] (t ∷ ts) [] p q = absurd q
-one_list [] (t ∷ ts) (w ∷ ws) p q = absurd p
-one_list (s ∷ ss) [] [] p q = absurd p
-one_list (s ∷ ss) [] (w ∷ ws) p q = absurd q
-one_list (s ∷ ss) (t ∷ ts) [] p q = absurd p
-one_list (s ∷ ss) (t ∷ ts) (w ∷ ws) p q = rw (one_token s t w p.0 q.0, one_list ss ts ws p.1 q.1) refl
-
 -- the parts of a descriptor, by the place of the first colon
 pub parts_at : (w : List ℕ) (n : ℕ) (object fd : List ℕ) → IsFirstByte (is_byte 58) w (Some n) → object ≡ take n w → fd ≡ drop (n + 1) w
     → (on : Descriptor) → IsDescriptor w on → (d : (IsNumber object on.object) × (IsNumber fd on.fd)) × (on.fd < 2 ^ 31)
@@ -199,7 +157,7 @@ after_minus w text n back m = rw (back, m.1) m.2
 -- the tokens of a text that stand for no line
 pub no_line : (text : List ℕ) (tokens : List Token) (found : Option Line) → AreTokens tokens (words_of text) → found ≡ line_from tokens → IfNone found ((line : Line) → Spells text line → ⊥)
 no_line text tokens None are e = λ line s.
-    let same : s.0 ≡ tokens = one_list s.0 tokens (words_of text) s.1 are in
+    let same : s.0 ≡ tokens = one_list IsToken one_token s.0 tokens (words_of text) s.1 are in
     let some : line_from tokens ≡ Some line = ap line_from (sym same) ∙ s.2 in
     absurd cc
 no_line text tokens (Some line) are e = tt

@@ -1,31 +1,16 @@
 -- The words of a line, and the tokens for which they stand.
-use Rattle.std.specs.Prelude.{◌≡◌, ◌≢◌, ℕ, ◌<◌, ◌≤◌, ◌^◌, ◌⊎◌, List, [], ◌∷◌, ◌++◌, length, ◌==◌, codes}
-use Rattle.std.specs.List.{slice_split, AllByRecursion}
-use Rattle.std.specs.Str.Parse.{AllDigits, digits_value}
+use Rattle.std.specs.Prelude.{◌≡◌, ℕ, ◌<◌, ◌^◌, List, ◌∷◌, ◌++◌, length, ◌==◌, codes}
+use Rattle.std.specs.List.{slice_split}
+use Rattle.words.specs.Words.{IsNumber, AreEach}
 use Rattle.uffd_log.specs.declared.call.Descriptor.{Descriptor}
 use Rattle.uffd_log.specs.declared.keyword.Keyword.{Keyword}
 use Rattle.uffd_log.specs.declared.keyword.Keyword.TheVariants as key
 use Rattle.uffd_log.specs.declared.token.Token.{Token}
 use Rattle.uffd_log.specs.declared.token.Token.TheVariants.{Key, Number, Minus, On, Error, Text}
 
--- no byte of the text is this one
-abbrev pub HasNone : ℕ → List ℕ → Type 0
-HasNone byte text = AllByRecursion (λ b. b ≢ byte) text
-
 -- the parts between the blanks. Where two blanks follow each other, or one is at an end, a part is empty
 abbrev pub words_of : List ℕ → List (List ℕ)
 words_of text = slice_split (λ b. b == 32) text
-
--- 1 to `most` digits in the radix, of this value
-pub record Digits (radix most : ℕ) (text : List ℕ) (n : ℕ) : Type 0 where
-  pub some : 0 < length text
-  pub few : length text ≤ most
-  pub each : AllDigits radix text
-  pub value : digits_value radix text ≡ n
-
--- a number below 2^64: 1 to 20 decimal digits, or 0x and 1 to 16 hexadecimal digits
-abbrev pub IsNumber : List ℕ → ℕ → Type 0
-IsNumber word n = (n < 2 ^ 64) × (Digits 10 20 word n ⊎ ((text : List ℕ) × (word ≡ 48 ∷ 120 ∷ text) × Digits 16 16 text n))
 
 -- a minus sign and a number
 abbrev pub IsMinus : List ℕ → ℕ → Type 0
@@ -117,7 +102,4 @@ IsToken Text word = IsOther word × ¬ BeginsWithE word
 
 -- each word is one for the token in its place
 abbrev pub AreTokens : List Token → List (List ℕ) → Type 0
-AreTokens [] [] = Unit {0}
-AreTokens [] (word ∷ words) = ⊥
-AreTokens (token ∷ tokens) [] = ⊥
-AreTokens (token ∷ tokens) (word ∷ words) = IsToken token word × AreTokens tokens words
+AreTokens tokens words = AreEach IsToken tokens words

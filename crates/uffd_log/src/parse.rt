@@ -9,7 +9,7 @@ use crate::line::{Line, Stamp};
 use crate::parse_answer::{answer_of, message_of};
 use crate::parse_call::{call_of, small_of};
 use crate::token::{Token, read_tokens};
-use mig_base::NoMemory;
+use foundation::NoMemory;
 
 /// The number, if it fits an `int` of C and is not 0.
 fn some_small_of(n: u64) -> Option<u32>

@@ -1,17 +1,16 @@
 //! The words of a line, and the tokens for which they stand.
 
-ghost use Rattle.std.specs.Prelude.{◌≡◌, ◌+◌, ◌<◌, ◌≤◌, ◌^◌, ℕ, List, length, take, drop, IfOk, IfSome, IfNone};
+ghost use Rattle.std.specs.Prelude.{◌≡◌, ◌+◌, ◌<◌, ℕ, List, length, take, drop, IfOk, IfSome, IfNone};
 ghost use Rattle.std.specs.Bool.{OnTrue, OnFalse};
-ghost use Rattle.std.specs.Option.{SomeIff};
-ghost use Rattle.std.specs.Str.Parse.{AllDigits, digits_value};
 ghost use Rattle.uffd_log.specs.declared.token.Token.{Token as TokenOf};
 ghost use Rattle.uffd_log.specs.declared.call.Descriptor.{Descriptor as DescriptorOf};
-ghost use Rattle.uffd_log.specs.Words.{words_of, IsNumber, IsMinus, IsDescriptor, IsToken, AreTokens};
+ghost use Rattle.uffd_log.specs.Words.{words_of, IsMinus, IsDescriptor, IsToken, AreTokens};
 
 use crate::call::Descriptor;
 use crate::keyword::Keyword;
+use foundation::NoMemory;
 use memchr::memchr;
-use mig_base::NoMemory;
+use words::number;
 
 /// A token: the meaning of a word of a line.
 #[derive(Clone, Copy)]
@@ -34,36 +33,6 @@ fn around(text: &[u8], at: usize) -> (&[u8], &[u8])
     ensures back { result.1.now ≡ drop (at + 1) text.now }
 {
     (&text[..at], &text[at + 1..])
-}
-
-/// The number that digits in a radix write, if it is below 2^64.
-fn digits(text: &[u8], radix: u32) -> Option<u64>
-    requires low { 2 ≤ radix }
-    requires high { radix ≤ 36 }
-    ensures { SomeIff result (AllDigits radix text.now ×
-        (digits_value radix text.now < 2 ^ 64)) (digits_value radix text.now) }
-{
-    let mut value: u64 = 0;
-    for byte in text {
-        let digit = char::from(*byte).to_digit(radix)?;
-        value = value
-            .checked_mul(u64::from(radix))?
-            .checked_add(u64::from(digit))?;
-    }
-    Some(value)
-}
-
-/// The number that a word spells.
-fn number(word: &[u8]) -> Option<u64>
-    ensures found { IfSome result (λ n. IsNumber word.now n) }
-    ensures none { IfNone result ((n : ℕ) → IsNumber word.now n → ⊥) }
-{
-    match word {
-        [b'0', b'x', text @ ..] if !text.is_empty() && text.len() <= 16 => digits(text, 16),
-        [b'0', b'x', ..] => None,
-        _ if word.is_empty() || word.len() > 20 => None,
-        _ => digits(word, 10),
-    }
 }
 
 /// The number after a minus sign.

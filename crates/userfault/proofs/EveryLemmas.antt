@@ -2,9 +2,9 @@
 use Rattle.std.proofs.Common.{◌≡◌, ℕ, zero, suc, ◌+◌, ◌-◌, ◌<◌, ◌≤◌, ◌&&◌, ◌||◌, Bool, true, false, not, refl, sym, ap, ◌∙◌, ⊎_elim, arith, nat_le}
 use Rattle.std.proofs.lemmas.Bool.Decides.{nat_tests}
 use Rattle.std.proofs.lemmas.Bool.{cases_lt}
-use Rattle.mig_base.specs.Ranges.{none_below}
-use Rattle.mig_base.proofs.RangeLemmas.{none_below-from, none_below-not}
-use Rattle.mig_base.specs.Tests.{same_bool, is_every}
+use Rattle.foundation.specs.Ranges.{none_below}
+use Rattle.foundation.proofs.RangeLemmas.{none_below-from, none_below-not}
+use Rattle.foundation.specs.Tests.{same_bool, is_every}
 
 is_below : (a b : ℕ) → a < b → nat_le b a ≡ false
 is_below a b h = grind (arith, nat_tests)

@@ -5,11 +5,12 @@ use Rattle.std.specs.FinSet.{FinSet, contains}
 use Rattle.std.proofs.lemmas.Bool.Decides.{nat_tests}
 use Rattle.std.proofs.lemmas.Bool.{false≢true, or_from}
 use Rattle.mig_base.specs.declared.TheConstants.{HIGH_PAGE}
-use Rattle.mig_base.specs.Ranges.{in_range, none_below}
+use Rattle.foundation.specs.Ranges.{in_range, none_below}
 use Rattle.mig_base.specs.Sets.{pages_where, moved_set, without}
 use Rattle.mig_base.proofs.SetLemmas.{same_members, member_below, member_without}
-use Rattle.mig_base.proofs.RangeLemmas.{none_below-from, none_below-not}
-use Rattle.mig_base.specs.Userfault.{Mode, Object, registered_where}
+use Rattle.foundation.proofs.RangeLemmas.{none_below-from, none_below-not}
+use Rattle.foundation.specs.Modes.{Mode}
+use Rattle.mig_base.specs.Userfault.{Object, registered_where}
 use Rattle.userfault.specs.Modes.{registered_set, has_asked}
 
 -- A set is the pages that pass a test where it has those, and they lie below the end.

@@ -3,10 +3,11 @@ use Rattle.std.proofs.Common.{◌≡◌, ℕ, ◌+◌, ◌-◌, ◌≤◌, ◌&&
 use Rattle.std.specs.Ordering.{nat_cmp}
 use Rattle.std.specs.FinSet.{FinSet, contains}
 use Rattle.std.proofs.lemmas.Bool.Decides.{nat_tests}
-use Rattle.mig_base.specs.Ranges.{in_range}
+use Rattle.foundation.specs.Ranges.{in_range}
 use Rattle.mig_base.specs.Sets.{pages_where, with_range, moved_set}
 use Rattle.mig_base.proofs.SetLemmas.{same_members, member_with_range}
-use Rattle.mig_base.specs.Userfault.{Object, Mode, moved_modes}
+use Rattle.foundation.specs.Modes.{Mode}
+use Rattle.mig_base.specs.Userfault.{Object, moved_modes}
 use Rattle.userfault.specs.Modes.{opened, AreModesOf, IsOpen}
 use Rattle.userfault.specs.declared.object.moves.RangeModes.{RangeModes}
 

@@ -2,16 +2,16 @@
 use Rattle.std.specs.Prelude.{◌≡◌, ℕ, ◌&&◌, ◌||◌, Bool, true, false, not, if◌then◌else◌}
 use Rattle.std.specs.Ordering.{nat_cmp}
 use Rattle.std.specs.FinSet.{FinSet, contains}
-use Rattle.mig_base.specs.Ranges.{in_range}
+use Rattle.foundation.specs.Ranges.{in_range}
 use Rattle.mig_base.specs.Sets.{pages_where, without, with_range}
-use Rattle.mig_base.specs.Userfault as machine
+use Rattle.foundation.specs.Modes as registration
 use Rattle.mig_base.specs.Userfault.{Object, is_registered}
-use Rattle.mig_base.specs.Tests.{same_bool}
+use Rattle.foundation.specs.Tests.{same_bool}
 use Rattle.userfault.specs.declared.modes.Mode.{Mode}
 use Rattle.userfault.specs.declared.object.moves.RangeModes.{RangeModes}
 
 -- the machine's mode that a mode of the code means
-abbrev pub mode_of : Mode → machine.Mode
+abbrev pub mode_of : Mode → registration.Mode
 mode_of mode = record { missing = mode.missing; protect = mode.protect }
 
 -- whether two pages have the same mode
@@ -29,7 +29,7 @@ registered_set own other first count asked other_asked =
     pages_where (λ page. if in_range first count page && not (has_asked own other asked other_asked page) then asked else contains own page)
 
 -- the mode of a page that is not registered
-abbrev pub no_mode : machine.Mode
+abbrev pub no_mode : registration.Mode
 no_mode = record { missing = false; protect = false }
 
 -- the object after a range is opened, to receive the modes of other pages: all its pages are registered in both modes
@@ -47,7 +47,7 @@ pub record AreModesOf (modes : RangeModes) (object : Object) (first count : ℕ)
   pub protect : (page : ℕ) → contains modes.protect page ≡ (in_range first count page && contains object.protect page)
 
 -- the object after the pages of a range lose each mode that `mode` does not have
-abbrev pub limited : Object → ℕ → ℕ → machine.Mode → Object
+abbrev pub limited : Object → ℕ → ℕ → registration.Mode → Object
 limited object first count mode =
     record object {
       missing = if mode.missing then object.missing else without object.missing first count;

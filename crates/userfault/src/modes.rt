@@ -2,10 +2,10 @@
 
 ghost use Rattle.std.specs.Prelude.{◌≡◌, ℕ, ◌+◌, ◌<◌, ◌≤◌, ◌⊎◌, ◌&&◌, ◌||◌, not, true, false, IfOk};
 ghost use Rattle.std.specs.FinSet.{contains};
-ghost use Rattle.mig_base.specs.Ranges.{in_range};
+ghost use Rattle.foundation.specs.Ranges.{in_range};
 ghost use Rattle.mig_base.specs.Sets.{moved_set};
 ghost use Rattle.mig_base.specs.declared.TheConstants.{HIGH_PAGE};
-ghost use Rattle.mig_base.specs.Tests.{same_bool, is_every};
+ghost use Rattle.foundation.specs.Tests.{same_bool, is_every};
 ghost use Rattle.userfault.specs.Modes.{registered_set};
 
 use mig_base::{NoMemory, PageNo, PageSet};

@@ -2,10 +2,10 @@
 
 ghost use Rattle.std.specs.Prelude.{◌≡◌, true, false, ℕ, ◌+◌, ◌-◌, ◌≤◌, ◌↔◌, if◌then◌else◌, Some, None, [], take, OnOk, OnErr, IfOk};
 ghost use Rattle.std.specs.Option.{option_map};
-ghost use Rattle.mig_base.specs.Ranges.{in_range};
+ghost use Rattle.foundation.specs.Ranges.{in_range};
 ghost use Rattle.mig_base.specs.declared.TheConstants.{HIGH_PAGE};
 ghost use Rattle.mig_base.specs.Userfault as machine;
-ghost use Rattle.mig_base.specs.Tests.{is_every};
+ghost use Rattle.foundation.specs.Tests.{is_every};
 ghost use Rattle.userfault.specs.Modes.{mode_of, has_mode_of};
 ghost use Rattle.mig_base.specs.Userfault.{is_watched};
 

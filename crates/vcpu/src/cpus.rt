@@ -113,7 +113,7 @@ impl Cpus {
         }
     }
 
-    /// The command that processor `k`, which was woken, has to try again. `NoCpu` if there is no such processor, `NotAsleep`
+    /// The command that processor `k`, which was woken, must try again. `NoCpu` if there is no such processor, `NotAsleep`
     /// if it is idle or in a map call, `NotWoken` if it still sleeps.
     pub fn woken(&self, k: u8) -> Result<Command, Refusal>
         ensures { result ≡ woken_answer self.now k }
@@ -125,7 +125,7 @@ impl Cpus {
         }
     }
 
-    /// Puts processor `k` to sleep on the page of `command`, which has to be a load or a store. `NoCpu` if there is no such
+    /// Puts processor `k` to sleep on the page of `command`, which must be a load or a store. `NoCpu` if there is no such
     /// processor, `Busy` unless it is idle.
     pub fn sleep(&mut self, k: u8, command: Command) -> Result<(), Refusal>
         requires { is_access command ≡ true }
@@ -241,7 +241,7 @@ impl Cpus {
         self.wake(Sleepers::OnAnyPage);
     }
 
-    /// Takes over the processors of another host: processor `k` has to try `commands[k]` again, or is idle if that is `None`.
+    /// Takes over the processors of another host: processor `k` must try `commands[k]` again, or is idle if that is `None`.
     /// The slice has one entry for each processor.
     pub fn take_over(&mut self, commands: &[Option<Command>])
         requires { length commands.now ≡ length self.old }

@@ -1,7 +1,7 @@
 //! The processors of a guest: what each of them does.
 //!
 //! [`Cpus`] owns the states of 1 to 16 processors. A processor is idle; or it sleeps on the page of a load or a store, as
-//! userfaultfd(2) describes, until that page is woken; or it was woken and has to try its load or store again; or it is in a
+//! userfaultfd(2) describes, until that page is woken; or it was woken and must try its load or store again; or it is in a
 //! map call, which returns once all messages that it caused have been read.
 //!
 //! The crate deliberately knows no more. It has no memory and no userfault object, and it executes no command: its callers

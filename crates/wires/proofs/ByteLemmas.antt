@@ -5,8 +5,8 @@ use Rattle.std.proofs.lemmas.List.Concat.{flat_map-cons}
 use Rattle.std.specs.Global.{Vec}
 use Rattle.std.specs.List.{AllByRecursion, concat}
 use Rattle.mig_model.specs.Wire.{Sent}
-use Rattle.frame_texts.specs.Texts.{text}
-use Rattle.frame_texts.specs.Texts.Version.{Two}
+use Rattle.page_stream.specs.Texts.{text}
+use Rattle.page_stream.specs.Texts.Version.{Two}
 use Rattle.frame_decoder.proofs.Decoding.{part_decoded, texts_decoded}
 use Rattle.frame_decoder.proofs.Whole.{each_join, texts_join}
 use Rattle.frame_decoder.specs.Feeding.{Decodes}

@@ -7,15 +7,15 @@ use Rattle.std.proofs.lemmas.List.Concat.{flat_map-append, flat_map-cons}
 use Rattle.std.proofs.Math.Seq.{take-suc}
 use Rattle.std.specs.Global.{Vec}
 use Rattle.std.specs.List.{AllByRecursion, flat_map}
-use Rattle.mig_base.specs.Tests.{is_empty as is_none_of}
+use Rattle.foundation.specs.Tests.{is_empty as is_none_of}
 use Rattle.mig_model.specs.Bounds.{IsFrame}
 use Rattle.mig_model.specs.Lengths.{text_len}
 use Rattle.mig_model.specs.Wire.{Frame, Sent}
-use Rattle.frame_texts.proofs.Encodable.{encodable}
-use Rattle.frame_texts.proofs.LengthBounds.{discard-bound, package-bound, recv-bound}
-use Rattle.frame_texts.proofs.TextLemmas.{length-text}
-use Rattle.frame_texts.specs.Texts.{has_frame, text}
-use Rattle.frame_texts.specs.Texts.Version.{Two}
+use Rattle.page_stream.proofs.Encodable.{encodable}
+use Rattle.page_stream.proofs.LengthBounds.{discard-bound, package-bound, recv-bound}
+use Rattle.page_stream.proofs.TextLemmas.{length-text}
+use Rattle.page_stream.specs.Texts.{has_frame, text}
+use Rattle.page_stream.specs.Texts.Version.{Two}
 use Rattle.page_stream.proofs.FrameTexts.{length-body_text}
 use Rattle.frame_decoder.proofs.FrontTexts.{next_again}
 use Rattle.frame_decoder.proofs.Whole.{each_join, texts_join}

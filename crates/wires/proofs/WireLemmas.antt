@@ -6,7 +6,7 @@ use Rattle.std.proofs.lemmas.Option.{same_Some}
 use Rattle.std.specs.Option.{option_map}
 use Rattle.mig_model.specs.Lengths.{text_len}
 use Rattle.mig_model.specs.Wire as machine
-use Rattle.frame_texts.specs.Texts.{text}
+use Rattle.page_stream.specs.Texts.{text}
 use Rattle.frame_decoder.specs.Streams.{IsSent, IsTextOf, decoded_sent as decoded}
 use Rattle.frame_decoder.specs.Versions.{version_of}
 use Rattle.frame_decoder.specs.declared.version.Version.TheVariants as versions

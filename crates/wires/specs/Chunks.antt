@@ -9,7 +9,7 @@ use Rattle.frame_decoder.specs.Streams.{IsSent, texts}
 use Rattle.frame_decoder.specs.Versions.{version_of}
 use Rattle.frame_decoder.specs.declared.version.Version.{Version}
 use Rattle.frame_decoder.specs.declared.version.Version.TheVariants as versions
-use Rattle.frame_texts.specs.Texts.{text}
+use Rattle.page_stream.specs.Texts.{text}
 use Rattle.mig_model.specs.Lengths.{text_len}
 use Rattle.wires.specs.declared.chunks.Chunks.{Chunks}
 use Rattle.wires.specs.declared.chunks.TheConstants.{LONGEST_TEXT}

@@ -1,7 +1,7 @@
 //! The bytes in flight.
 
 ghost use Rattle.std.specs.Prelude.{◌≡◌, ◌↔◌, true, ◌+◌, ◌-◌, ◌≤◌, ◌<◌, ◌++◌, ◌∷◌, [], IfOk, OnOk, length, map, slice_index_or, vec_capacity, vec_len};
-ghost use Rattle.mig_base.specs.Tests.{is_empty as is_none_of};
+ghost use Rattle.foundation.specs.Tests.{is_empty as is_none_of};
 ghost use Rattle.mig_model.specs.Bounds.{IsFrame};
 ghost use Rattle.mig_model.specs.Wire as machine;
 ghost use Rattle.page_stream.specs.Frames.{frame_of};

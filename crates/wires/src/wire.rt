@@ -1,13 +1,13 @@
 //! A wire: the type that callers see.
 
-ghost use Rattle.std.specs.Prelude.{◌≡◌, ◌↔◌, true, ◌+◌, ◌<◌, ◌≤◌, ◌++◌, ◌∷◌, [], length, slice_index_or, take, None, IfOk, OnOk, List};
+ghost use Rattle.std.specs.Prelude.{◌≡◌, ◌↔◌, true, ◌+◌, ◌<◌, ◌≤◌, ◌++◌, ◌∷◌, [], length, map, slice_index_or, take, None, IfOk, OnOk, List};
 ghost use Rattle.std.specs.List.{AllByRecursion};
 ghost use Rattle.std.specs.Option.{IfSome};
-ghost use Rattle.mig_base.specs.Tests.{is_empty as is_none_of};
+ghost use Rattle.foundation.specs.Tests.{is_empty as is_none_of};
 ghost use Rattle.mig_model.specs.Bounds.{IsFrame};
 ghost use Rattle.mig_model.specs.Invariant.{HeldFits};
 ghost use Rattle.mig_model.specs.Wire as machine;
-ghost use Rattle.frame_texts.specs.Texts as written;
+ghost use Rattle.page_stream.specs.Texts as written;
 ghost use Rattle.page_stream.specs.Frames.{frame_of};
 ghost use Rattle.frame_decoder.specs.Feeding.{Decodes};
 ghost use Rattle.frame_decoder.specs.Streams.{IsSent, texts};
@@ -160,6 +160,19 @@ impl Wire {
         ensures room { self.old.room ≤ self.new.room + 1 }
     {
         self.chunks.write_page(epoch, page, bytes);
+    }
+
+    /// Sends well-formed frames in their order, for which there is room.
+    pub fn push_all(&mut self, epoch: u32, mut frames: Vec<Frame>)
+        requires well_formed { AllByRecursion IsFrame (map frame_of frames.items) }
+        requires room { length frames.items ≤ self.old.room }
+        ensures { self.new.wire ≡
+            machine.wire_with self.old.wire epoch (map frame_of frames.items) }
+    {
+        frames.reverse();
+        while let Some(frame) = frames.pop() {
+            self.push(epoch, frame);
+        }
     }
 
     /// Lets `n` more bytes of the first frame come. Unless they complete it, they are counted, and the result is `None`. If they do, the

@@ -4,15 +4,15 @@ ghost use Rattle.std.specs.Prelude.{◌≡◌, ◌+◌, ◌<◌, ◌≤◌, ◌^
 ghost use Rattle.grammar.specs.Lines.{HasNoFeed};
 ghost use Rattle.engine.specs.declared.line_runner.Mode.{Mode as AMode};
 ghost use Rattle.engine.specs.Engine.{Running, start_of};
-ghost use Rattle.engine.specs.Script.{Writes};
-ghost use Rattle.mig_model.specs.Migration.{World, first_world};
+ghost use Rattle.engine.specs.Script.{new_world, Writes};
+ghost use Rattle.mig_model.specs.Migration.{World};
 ghost use Rattle.wiretap.specs.Traffic.{IsTapped, Gets};
 ghost use Rattle.wiretap.specs.Moves.{IsRunning, EndsOne, Moves, Ends, ReadsAll, AreMarks, bytes_in_flight};
 
 use crate::fault::TapFault;
 use crate::marks::Marks;
 use crate::taps::Taps;
-use engine::{LineRunner, Mode, RunFault, ScriptReader};
+use engine::{LineRunner, RunFault, ScriptReader, Setup};
 use lines::Lines;
 use std::alloc::Global;
 use std::io::{Read, Write};
@@ -20,53 +20,55 @@ use std::io::{Read, Write};
 /// The most bytes that are read at once.
 const PIECE: usize = 16_384;
 
-/// Runs a script as `engine::run_script` does, and writes to each of the taps what the steps put on its wire.
-///
-/// The output of a line is written as the line ends, and then what its step put on the wires. At most 4,294,967,295 reads are made; a
-/// script that needs more ends with a read fault. An interrupted read or write is a fault.
-pub fn run_tapped<R: Read, W: Write, T: Write + Drop>(
-    alloc: Global,
-    reader: &mut R,
-    writer: &mut W,
-    taps: &mut Taps<T>,
-    cpus: u8,
-    mode: Mode,
-) -> Result<(), TapFault>
-    requires low { 1 ≤ cpus }
-    requires high { cpus ≤ 16 }
-    ensures output { OnOk result (IfSome (R.remaining reader.old) (λ input.
-        Writes mode (first_world cpus) input (W.contents writer.old) (W.contents writer.new))) }
-    ensures wires { OnOk result (IfSome (R.remaining reader.old) (λ input.
-        IsTapped T.contents mode (first_world cpus) input (W.contents writer.old)
-        (W.contents writer.new) taps.old taps.new)) }
-{
-    let runner = LineRunner::on_world(alloc, cpus, mode)?;
-    let mut script = ScriptReader::new(alloc, runner);
-    read_lines(reader, writer, taps, &mut script)
-}
-
-/// Reads all lines to the end of the input, and does each.
-fn read_lines<R: Read, W: Write, T: Write + Drop>(
-    reader: &mut R,
-    writer: &mut W,
-    taps: &mut Taps<T>,
-    script: &mut ScriptReader,
-) -> Result<(), TapFault>
-    requires start { script.old ≡ start_of script.old.work }
-    requires runs { IsRunning script.old.work }
-    ensures { OnOk result (IfSome (R.remaining reader.old) (λ input.
-        ReadsAll T.contents script.old.work input script.new.work (W.contents writer.old)
-        (W.contents writer.new) taps.old taps.new)) }
-{
-    let mut buffer = [0u8; PIECE];
-    for _ in 0..u32::MAX {
-        match reader.read(&mut buffer) {
-            Ok(0) => return finish(writer, taps, script),
-            Ok(count) => run_lines(writer, taps, script, &buffer[..count])?,
-            Err(_) => return Err(TapFault::Run(RunFault::ReadFault)),
-        }
+impl<T: Write + Drop> Taps<T> {
+    /// Runs a script as `engine::run_script` does, and writes to each of the taps what the steps put on its wire.
+    ///
+    /// The output of a line is written as the line ends, and then what its step put on the wires. At most 4,294,967,295 reads are made; a
+    /// script that needs more ends with a read fault. An interrupted read or write is a fault.
+    pub fn run_tapped<R: Read, W: Write>(
+        &mut self,
+        alloc: Global,
+        reader: &mut R,
+        writer: &mut W,
+        setup: Setup,
+    ) -> Result<(), TapFault>
+        requires low { 1 ≤ setup.cpus }
+        requires high { setup.cpus ≤ 16 }
+        ensures output { OnOk result (IfSome (R.remaining reader.old) (λ input.
+            Writes setup.mode (new_world setup) input (W.contents writer.old)
+            (W.contents writer.new))) }
+        ensures wires { OnOk result (IfSome (R.remaining reader.old) (λ input.
+            IsTapped T.contents setup.mode (new_world setup) input (W.contents writer.old)
+            (W.contents writer.new) self.old self.new)) }
+    {
+        let runner = LineRunner::on_world(alloc, setup.cpus, setup.mode)?;
+        let mut script = ScriptReader::new(alloc, runner);
+        self.read_lines(reader, writer, &mut script)
     }
-    Err(TapFault::Run(RunFault::ReadFault))
+
+    /// Reads all lines to the end of the input, and does each.
+    fn read_lines<R: Read, W: Write>(
+        &mut self,
+        reader: &mut R,
+        writer: &mut W,
+        script: &mut ScriptReader,
+    ) -> Result<(), TapFault>
+        requires start { script.old ≡ start_of script.old.work }
+        requires runs { IsRunning script.old.work }
+        ensures { OnOk result (IfSome (R.remaining reader.old) (λ input.
+            ReadsAll T.contents script.old.work input script.new.work (W.contents writer.old)
+            (W.contents writer.new) self.old self.new)) }
+    {
+        let mut buffer = [0u8; PIECE];
+        for _ in 0..u32::MAX {
+            match reader.read(&mut buffer) {
+                Ok(0) => return finish(writer, self, script),
+                Ok(count) => run_lines(writer, self, script, &buffer[..count])?,
+                Err(_) => return Err(TapFault::Run(RunFault::ReadFault)),
+            }
+        }
+        Err(TapFault::Run(RunFault::ReadFault))
+    }
 }
 
 /// Takes the next bytes, and does each line that ends in them.

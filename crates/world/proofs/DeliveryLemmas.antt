@@ -1,34 +1,40 @@
 -- Deliveries: what is refused, what moves bytes alone, and what a node takes.
-use Rattle.std.proofs.Common.{◌≡◌, ℕ, ◌⊎◌, ◌||◌, Bool, true, false, not, ◌&&◌, Option, Some, None, Ok, Err, Result, List, [], ◌∷◌, refl, sym, ap, ◌∙◌, subst, inr, ⊎_elim, arith, if◌then◌else◌}
+use Rattle.std.proofs.Common.{◌≡◌, ◌==◌, ℕ, ◌⊎◌, ◌||◌, Bool, true, false, not, ◌&&◌, Option, Some, None, Ok, Err, Result, List, [], ◌∷◌, refl, sym, ap, ◌∙◌, subst, inr, ⊎_elim, arith, if◌then◌else◌}
 use Rattle.std.specs.Prelude.{ok_or, unwrap_or}
 use Rattle.std.proofs.lemmas.Bool.Decides.{nat_tests}
 use Rattle.std.specs.Ordering.{nat_cmp}
 use Rattle.std.specs.FinSet.{FinSet}
 use Rattle.mig_base.specs.declared.effect.Effect.{Effect}
+use Rattle.mig_base.specs.declared.fault.BackFault.{BackFault}
+use Rattle.mig_base.specs.declared.fault.RebuildFault.{RebuildFault}
 use Rattle.mig_base.specs.declared.fault.TakeFault.{TakeFault}
 use Rattle.mig_base.specs.declared.phase.Received.{Received}
 use Rattle.mig_base.specs.declared.refusal.Refusal.{Refusal}
 use Rattle.mig_base.specs.declared.schedule.Step.{Step}
-use Rattle.mig_base.specs.Tests.{first_holding, is_empty}
+use Rattle.foundation.specs.Tests.{first_holding, is_empty}
 use Rattle.mig_model.specs.Destination.{Destination, destination_answers, destination_took}
 use Rattle.mig_model.specs.DestinationSteps.{take, take_urgent}
 use Rattle.mig_model.specs.Effects.{frame_effect}
-use Rattle.mig_model.specs.Faults.{back_fault, frame_fault, is_early, is_end, rebuild_fault, take_fault, urgent_fault, wait_fault}
+use Rattle.mig_model.specs.Faults.{frame_fault, is_bad_owed, is_early, is_end, is_in_place_back, take_fault, urgent_fault, wait_fault}
 use Rattle.mig_model.specs.Migration.{World, answer, destination_sends, has_started, is_short, outcome, outcome_by}
 use Rattle.mig_model.specs.NodeSteps.{Sends, acted, and_then, checked, first_of, in_phase, is_out_of_phase, rest_of, sent, unless, while_up}
 use Rattle.mig_model.specs.Promises.{IsReached}
 use Rattle.mig_model.specs.Runs.{Happens, is_move, may_lack}
 use Rattle.mig_model.specs.Source.{Source, source_answers, space_of}
 use Rattle.mig_model.specs.SourceSteps as source
+use Rattle.mig_model.specs.Space.{IsSoundSpace}
 use Rattle.mig_model.specs.Wire.{Frame, Sent, Wire, wire_behind, wire_if, wire_with}
 use Rattle.mig_model.specs.Wire.Frame.{Recv}
 use Rattle.mig_model.proofs.steps.EveryStep.{kept-reached, urgent-reached}
 use Rattle.mig_model.proofs.delivery.FrameFaults.{no_back_fault, no_frame_fault, no_rebuild_fault, no_urgent_fault, present_below}
 use Rattle.mig_model.proofs.delivery.FramesTaken.{back_epoch, is_taken, is_taken_back}
+use Rattle.mig_model.proofs.delivery.Taken.{IsInPlaceBack}
 use Rattle.mig_model.proofs.steps.StepLemmas.{delivers, delivers_back, delivers_urgent}
 use Rattle.mig_model.proofs.invariant.UrgentKept.{is_taken_urgent}
 use Rattle.mig_model.proofs.transcript.WaitingAccesses.{as_many}
 use Rattle.page_stream.specs.Frames.{frame_of}
+use Rattle.precopy.specs.Back.{is_bad_recv, source_fault}
+use Rattle.precopy.specs.declared.fault.SourceFault.{SourceFault}
 use Rattle.wires.specs.Lanes.{Arrives, IsMoved, IsWhole, sent_of}
 use Rattle.wires.specs.declared.sent.Sent.{Sent as CodeSent}
 use Rattle.world.proofs.StepLemmas.{destination_acted, destination_sent, happens_made, happens_refused, source_sent}
@@ -223,14 +229,25 @@ back_took world n one effect node forward can whole took answered =
     source_sent world (record world { back = wire_behind whole.rest }) (Step.DeliverBack n) (source.take world.source (frame_of one.frame)) effect (source_answers world.source (frame_of one.frame)) node forward
     (delivers_back world n (sent_of one) whole.rest false can.allowed can.up whole.first whole.whole) took answered
 
-pub back_right : (world : World) (n : ℕ) (one : CodeSent) → IsReached world → CanArrive world.up (has_started world) world.back → IsWhole world.back n one → back_fault world.source one.epoch (frame_of one.frame) ≡ None
-back_right world n one reached can whole =
-    no_back_fault world.source (sent_of one) (is_taken_back world (sent_of one) whole.rest (kept-reached world reached) can.up whole.first) (back_epoch world (sent_of one) whole.rest (kept-reached world reached) whole.first)
+owed_right : (bad : Bool) → first_holding ((bad, RebuildFault.BadOwed) ∷ []) ≡ None → bad ≡ false
+owed_right bad none = grind (arith, nat_tests)
 
-pub recv_right : (world : World) (n : ℕ) (one : CodeSent) (state : Received) (owed : FinSet nat_cmp) → IsReached world → CanArrive world.up (has_started world) world.back → (whole : IsWhole world.back n one) → frame_of one.frame ≡ Recv state owed → rebuild_fault world.source state owed ≡ None
-recv_right world n one state owed reached can whole is =
-    no_rebuild_fault world.source state owed (present_below (space_of world.source) (kept-reached world reached).spaces.source_space)
-    (is_taken_back world (record { epoch = one.epoch; frame = Recv state owed }) whole.rest (kept-reached world reached) can.up (whole.first ∙ ap (λ frame. record { epoch = one.epoch; frame = frame } ∷ whole.rest) is))
+recv_right : (node : Source) (state : Received) (owed : FinSet nat_cmp) → IsSoundSpace (space_of node) → IsInPlaceBack node (Recv state owed) → is_bad_owed node state owed ≡ false
+recv_right node state owed sound place = owed_right (is_bad_owed node state owed) (no_rebuild_fault node state owed (present_below (space_of node) sound) place)
+
+not_bad : (node : Source) (frame : Frame) → IsSoundSpace (space_of node) → IsInPlaceBack node frame → is_bad_recv node frame ≡ false
+not_bad node frame sound place = grind (arith, nat_tests, recv_right)
+
+no_fault : (out stale bad : Bool) → first_holding ((out, BackFault.OutOfPlace) ∷ (stale, BackFault.StaleEpoch) ∷ []) ≡ None → bad ≡ false →
+    first_holding ((out, SourceFault.OutOfPlace) ∷ (stale, SourceFault.StaleEpoch) ∷ (bad, SourceFault.BadOwed) ∷ []) ≡ None
+no_fault out stale bad none is = grind (arith, nat_tests)
+
+pub back_right : (world : World) (n : ℕ) (one : CodeSent) → IsReached world → CanArrive world.up (has_started world) world.back → IsWhole world.back n one → source_fault world.source one.epoch (frame_of one.frame) ≡ None
+back_right world n one reached can whole =
+    let kept = kept-reached world reached in
+    let place = is_taken_back world (sent_of one) whole.rest kept can.up whole.first in
+    no_fault (not (is_in_place_back world.source (frame_of one.frame))) (not (one.epoch == world.source.epoch)) (is_bad_recv world.source (frame_of one.frame))
+    (no_back_fault world.source (sent_of one) place (back_epoch world (sent_of one) whole.rest kept whole.first)) (not_bad world.source (frame_of one.frame) kept.spaces.source_space place)
 
 -- DeliverUrgent
 

@@ -6,8 +6,8 @@ use Rattle.std.proofs.lemmas.List.Concat.{flat_map-cons}
 use Rattle.frame_decoder.specs.Streams.{texts}
 use Rattle.frame_decoder.specs.Versions.{version_of}
 use Rattle.frame_decoder.specs.declared.version.Version.TheVariants.{Two}
-use Rattle.frame_texts.specs.Texts.{tag_code, text}
-use Rattle.mig_base.specs.Tests.{is_empty}
+use Rattle.page_stream.specs.Texts.{tag_code, text}
+use Rattle.foundation.specs.Tests.{is_empty}
 use Rattle.mig_base.specs.declared.phase.DestPhase.{DestPhase}
 use Rattle.mig_base.specs.declared.phase.SourcePhase.{SourcePhase}
 use Rattle.mig_base.specs.declared.refusal.Refusal.{Refusal}

@@ -179,12 +179,3 @@ breaks world ok = breaks_by world (answer world Step.Break) refl ok
 
 pub breaks_not : (world : World) (refusal : Refusal) → Err refusal ≡ checked (answer world Step.Break) → answer world Step.Break ≡ Err refusal
 breaks_not world refusal h = grind (arith, nat_tests)
-
--- Frames after others
-
-sending-both : (wire : List Sent) (epoch : ℕ) (frames more : List Frame) → sending (sending wire epoch frames) epoch more ≡ sending wire epoch (frames ++ more)
-sending-both wire epoch [] more = refl
-sending-both wire epoch (frame ∷ frames) more = sending-both (wire ++ record { epoch = epoch; frame = frame } ∷ []) epoch frames more
-
-pub wire-both : (wire : Wire) (epoch : ℕ) (frames more : List Frame) → wire_with (wire_with wire epoch frames) epoch more ≡ wire_with wire epoch (frames ++ more)
-wire-both wire epoch frames more = λ i. record wire { frames = sending-both wire.frames epoch frames more i }

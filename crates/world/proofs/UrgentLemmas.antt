@@ -17,8 +17,8 @@ use Rattle.mig_model.proofs.steps.EveryStep.{kept-reached}
 use Rattle.mig_model.proofs.steps.StepLemmas.{is-up}
 use Rattle.mig_model.proofs.invariant.UrgentFew.{few-reached}
 use Rattle.mig_model.proofs.steps.WokenSteps.{stopped_switched}
-use Rattle.frame_texts.proofs.FrameBounds.{member_present, present_pages}
-use Rattle.frame_texts.proofs.FrameSteps.{stopped_unreleased}
+use Rattle.page_stream.proofs.FrameBounds.{member_present, present_pages}
+use Rattle.page_stream.proofs.FrameSteps.{stopped_unreleased}
 use Rattle.world.specs.Worlds.{IsWorld}
 use Rattle.world.proofs.StepLemmas.{happens_refused}
 

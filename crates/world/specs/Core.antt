@@ -4,7 +4,7 @@
 -- that is present; and once the migration is complete, and from then on, the destination alone holds that flat memory, and no page is owed.
 use Rattle.std.specs.Prelude.{◌≡◌, ℕ, ◌<◌, ◌/◌, ◌⊎◌, ◌==◌, ◌&&◌, if◌then◌else◌, Bool, true, false, Option, None, Some, Ok, Err, IsOk, List, [], ◌∷◌, ◌++◌, length}
 use Rattle.mig_base.specs.Flat.{IsFlatRun, memory_of}
-use Rattle.mig_base.specs.declared.TheConstants.{PAGE_SIZE}
+use Rattle.foundation.specs.declared.TheConstants.{PAGE_SIZE}
 use Rattle.mig_base.specs.declared.command.Command.{Command}
 use Rattle.mig_base.specs.declared.command.Entry.{Entry}
 use Rattle.mig_base.specs.declared.command.Reply.{Reply}

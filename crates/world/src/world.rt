@@ -124,7 +124,7 @@ impl World {
 
     /// Makes one step, and returns its effect. A step that is refused changes nothing, and may be made again. If several refusals apply,
     /// the first in the order of [`Refusal`] counts. `NoMemory` comes after all others, with one exception: a Deliver whose frame would
-    /// have to wait may return it. Break, Notice and Serve never return it.
+    /// must wait may return it. Break, Notice and Serve never return it.
     pub fn step(&mut self, step: Step) -> Result<Effect, Refusal>
         ensures core { CoreStep self.old step result self.new }
         ensures happens { Happens self.old step result self.new }

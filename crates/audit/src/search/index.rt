@@ -1,10 +1,10 @@
 //! What a search looks up in a log: reads by their objects and pages, and what takes registered pages away.
 
 use crate::needs::protects;
-use crate::search::spans::{At, Of, Spans};
+use crate::search::spans::{ObjectPage, Owner, Spans};
 use call_log::log::Log;
 use call_log::log_call::LogCall;
-use mig_base::NoMemory;
+use foundation::NoMemory;
 use std::alloc::Global;
 use uffd_log::{Call, Message};
 
@@ -44,6 +44,28 @@ pub(crate) struct Index {
     registered: Spans,
     /// Those that write-protect pages of an object.
     pub(crate) protected: Spans,
+}
+
+/// The bytes that an mremap maps or unmaps beside its old place: its target, or what it adds or cuts off where it moves nothing.
+fn changed_by_mremap(call: &LogCall) -> Option<(u64, u64)> {
+    let Call::Mremap {
+        addr,
+        old_len,
+        new_len,
+        ..
+    } = call.call
+    else {
+        return None;
+    };
+    let target = call.value()?;
+    if target != addr {
+        return Some((target, new_len));
+    }
+    let end = old_len.min(new_len);
+    Some((
+        addr.saturating_add(end),
+        old_len.max(new_len).saturating_sub(end),
+    ))
 }
 
 impl Index {
@@ -122,10 +144,13 @@ impl Index {
         let (Some(bytes), true) = (call.bytes(), call.is_ok()) else {
             return Ok(());
         };
-        let space = Of::Space(call.space);
-        if let (Call::Mremap { new_len, .. }, Some(target)) = (call.call, call.value()) {
-            self.registered.add(place, call, space, (target, new_len))?;
-            self.gone.add(place, call, space, (target, new_len))?;
+        let space = Owner::Space(call.space);
+        if let Some(changed) = changed_by_mremap(call) {
+            self.registered.add(place, call, space, changed)?;
+            self.gone.add(place, call, space, changed)?;
+            if call.value() == Some(bytes.0) {
+                return Ok(());
+            }
         }
         let Some(object) = call.object() else {
             return match call.call {
@@ -134,9 +159,13 @@ impl Index {
             };
         };
         match call.call {
-            Call::Unregister { .. } => self.gone.add(place, call, Of::Object(object), bytes),
-            Call::Register { .. } => self.registered.add(place, call, Of::Object(object), bytes),
-            _ if protects(call) => self.protected.add(place, call, Of::Object(object), bytes),
+            Call::Unregister { .. } => self.gone.add(place, call, Owner::Object(object), bytes),
+            Call::Register { .. } => self
+                .registered
+                .add(place, call, Owner::Object(object), bytes),
+            _ if protects(call) => self
+                .protected
+                .add(place, call, Owner::Object(object), bytes),
             _ => Ok(()),
         }
     }
@@ -176,23 +205,24 @@ impl Index {
     }
 
     /// Whether a page may be registered by a call that ends at a line or after it, and begins before another line.
-    pub(crate) fn is_registered(&self, at: At, from: u32, until: u32) -> bool {
+    pub(crate) fn is_registered(&self, at: ObjectPage, from: u32, until: u32) -> bool {
         self.registered.has_any(at, from, until)
     }
 
     /// The same of calls that take its registration away.
-    pub(crate) fn is_gone(&self, at: At, from: u32, until: u32) -> bool {
+    pub(crate) fn is_gone(&self, at: ObjectPage, from: u32, until: u32) -> bool {
         self.gone.has_any(at, from, until)
     }
 
     /// The same of calls that take its registration away, and of others that register it.
-    pub(crate) fn is_registered_anew(&self, at: At, from: u32, until: u32) -> bool {
+    pub(crate) fn is_registered_anew(&self, at: ObjectPage, from: u32, until: u32) -> bool {
         self.is_gone(at, from, until) && self.is_registered(at, from, until)
     }
 
     /// The same of calls that make it missing: it is cleared, or registered anew.
-    pub(crate) fn is_cleared(&self, at: At, from: u32, until: u32) -> bool {
-        self.cleared.has(Of::Space(at.space), at.addr, from, until)
+    pub(crate) fn is_cleared(&self, at: ObjectPage, from: u32, until: u32) -> bool {
+        self.cleared
+            .has(Owner::Space(at.space), at.addr, from, until)
             || self.is_registered_anew(at, from, until)
     }
 }

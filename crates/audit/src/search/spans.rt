@@ -1,19 +1,19 @@
 //! Calls by the bytes that they change, in the order of their ends.
 
 use call_log::log_call::LogCall;
-use mig_base::NoMemory;
+use foundation::NoMemory;
 use std::alloc::Global;
 
 /// Whose bytes.
 #[derive(Clone, Copy, PartialEq, Eq)]
-pub(crate) enum Of {
+pub(crate) enum Owner {
     Space(u32),
     Object(u64),
 }
 
 /// A page by its first byte, with its object and that one's address space.
 #[derive(Clone, Copy)]
-pub(crate) struct At {
+pub(crate) struct ObjectPage {
     pub(crate) object: u64,
     pub(crate) space: u32,
     pub(crate) addr: u64,
@@ -27,7 +27,7 @@ struct Span {
     begin: u32,
     /// The first line at which it or one after it begins.
     first_begin: u32,
-    of: Of,
+    of: Owner,
     start: u64,
     len: u64,
 }
@@ -46,7 +46,7 @@ impl Spans {
         &mut self,
         place: u32,
         call: &LogCall,
-        of: Of,
+        of: Owner,
         bytes: (u64, u64),
     ) -> Result<(), NoMemory> {
         let (start, len) = bytes;
@@ -72,7 +72,7 @@ impl Spans {
     }
 
     /// Whether a byte may have been changed by a call that ends at a line or after it, and begins before another line.
-    pub(crate) fn has(&self, of: Of, addr: u64, from: u32, until: u32) -> bool {
+    pub(crate) fn has(&self, of: Owner, addr: u64, from: u32, until: u32) -> bool {
         self.next(of, addr, until, self.first(from)).is_some()
     }
 
@@ -82,7 +82,13 @@ impl Spans {
     }
 
     /// The first of these calls from a place of the list on, with the place after it.
-    pub(crate) fn next(&self, of: Of, addr: u64, until: u32, first: usize) -> Option<(u32, usize)> {
+    pub(crate) fn next(
+        &self,
+        of: Owner,
+        addr: u64,
+        until: u32,
+        first: usize,
+    ) -> Option<(u32, usize)> {
         for place in first..self.0.len() {
             let span = self.0.get(place)?;
             if span.first_begin >= until {
@@ -97,8 +103,8 @@ impl Spans {
     }
 
     /// The same of a page, by calls on its object or of its space.
-    pub(crate) fn has_any(&self, at: At, from: u32, until: u32) -> bool {
-        self.has(Of::Object(at.object), at.addr, from, until)
-            || self.has(Of::Space(at.space), at.addr, from, until)
+    pub(crate) fn has_any(&self, at: ObjectPage, from: u32, until: u32) -> bool {
+        self.has(Owner::Object(at.object), at.addr, from, until)
+            || self.has(Owner::Space(at.space), at.addr, from, until)
     }
 }

@@ -19,25 +19,31 @@ pub(super) fn drawn<T>(items: &[T]) -> &[T] {
     items.get(..MOST_DOTS).unwrap_or(items)
 }
 
-/// Draws a stretch in a row that begins and is high so, and names whose it is and what it shows. Returns its rectangle.
-pub(super) fn cell<'a>(
+/// What is said of a stretch: whose it is, and what it shows.
+#[derive(Clone, Copy)]
+pub(super) struct Caption<'a> {
+    pub whose: [Part<'a>; 4],
+    pub words: &'a str,
+}
+
+/// Draws a stretch in a row that begins and is high so, with its caption. Returns its rectangle.
+pub(super) fn cell(
     pen: &mut Pen,
     plan: &Plan,
     record: &Record,
     stretch: &Stretch,
     extent: (u64, u64),
-    whose: [Part<'a>; 4],
-    words: &'a str,
+    caption: Caption<'_>,
 ) -> Frame {
     let frame = plan.frame_of(stretch, extent.0, extent.1);
-    let [one, two, three, four] = whose;
+    let [one, two, three, four] = caption.whose;
     pen.name(&[
         one,
         two,
         three,
         four,
         Words(": "),
-        Words(words),
+        Words(caption.words),
         Words(", lines "),
         Number(plan.line_of(record, stretch.from)),
         Words(" to "),
@@ -64,7 +70,7 @@ fn pages(pen: &mut Pen, plan: &Plan, record: &Record, band: &Band) {
             let whose = [first, more, Nothing, Nothing];
             let words = stretch.state.look().words;
             let extent = (row.top, band.height);
-            cell(pen, plan, record, stretch, extent, whose, words);
+            cell(pen, plan, record, stretch, extent, Caption { whose, words });
         }
     }
     let mut free = 0u64;

@@ -1,6 +1,6 @@
 //! The band of the processors: what each waits for, and how long.
 
-use super::bands::cell;
+use super::bands::{Caption, cell};
 use crate::band::Stretch;
 use crate::class::Class;
 use crate::pen::Pen;
@@ -40,7 +40,8 @@ fn bar(pen: &mut Pen, plan: &Plan, record: &Record, stretch: &Stretch) {
     let [before, page] = about(stretch.about);
     let whose = [Words("cpu "), Number(stretch.row), before, page];
     let word = stretch.state.look().part;
-    let frame = cell(pen, plan, record, stretch, extent, whose, word);
+    let caption = Caption { whose, words: word };
+    let frame = cell(pen, plan, record, stretch, extent, caption);
     if width_of(word.len(), 80).saturating_add(20) <= frame.width {
         let x = frame.x.saturating_add(frame.width / 2);
         let y = top.saturating_add(AXLE + 28);

@@ -1,15 +1,14 @@
 //! How the source's handler changes a log: it reads messages and resolves faults.
 
-ghost use Rattle.std.specs.Prelude.{◌≡◌, ℕ, ◌*◌, ◌⊎◌, List, ◌∷◌, Some, None, Err, IfOk, IfErr, OnOk, OnErr};
+ghost use Rattle.std.specs.Prelude.{◌≡◌, ◌*◌, ◌⊎◌, Some, None, Err, IfOk, IfErr, OnOk, OnErr};
 ghost use Rattle.std.specs.Option.{IsSome};
 ghost use Rattle.mig_base.specs.Userfault.{Noted, next_message};
 ghost use Rattle.mig_model.specs.Guest as guest;
-ghost use Rattle.mig_model.specs.Log as machine;
 ghost use Rattle.mig_model.specs.NodeSteps.{first_of};
-ghost use Rattle.mig_model.specs.Source.{Source, source_act, source_acted, space_of};
+ghost use Rattle.mig_model.specs.Source.{source_acted};
 ghost use Rattle.uffd_ioctl.specs.Lent.{IsLent};
 ghost use Rattle.dirty_log.specs.Answers.{IsRefusedAs, act_refusal, read_answer};
-ghost use Rattle.dirty_log.specs.Spaces.{source_of};
+ghost use Rattle.dirty_log.specs.Spaces.{act_in, handler_read, source_of};
 
 use super::DirtyLog;
 use crate::sets::remove_changed;
@@ -31,16 +30,9 @@ impl DirtyLog {
             read_answer (record { space = space.old; cpus = cpus.old })
             (next_message space.old.object)) ⊎
             ((result ≡ Err Refusal.NoMemory) × IsSome (next_message space.old.object)) }
-        ensures log { (noted : Noted) → next_message space.old.object ≡ Some noted →
-            OnOk result (self.new ≡ machine.log_read self.old noted.message) }
-        ensures space { (noted : Noted) → next_message space.old.object ≡ Some noted →
-            OnOk result (space.new ≡
-            (guest.read_guest (record { space = space.old; cpus = cpus.old }) noted.cpu
-            noted.message).space) }
-        ensures cpus { (noted : Noted) → next_message space.old.object ≡ Some noted →
-            OnOk result (cpus.new ≡
-            (guest.read_guest (record { space = space.old; cpus = cpus.old }) noted.cpu
-            noted.message).cpus) }
+        ensures read { (noted : Noted) → next_message space.old.object ≡ Some noted →
+            OnOk result (source_of self.new space.new cpus.new ≡
+            handler_read (source_of self.old space.old cpus.old) noted) }
         ensures memory { (noted : Noted) → next_message space.old.object ≡ Some noted →
             result ≡ Err Refusal.NoMemory → guest.fault_count noted.message ≡ 1 }
         ensures err { OnErr result ((self.new ≡ self.old) × (space.new ≡ space.old) ×
@@ -73,15 +65,14 @@ impl DirtyLog {
         Ok(())
     }
 
-    /// What [`DirtyLog::act`] would do next: how the first held fault has to be resolved according to the present state of its page, and
+    /// What [`DirtyLog::act`] would do next: how the first held fault must be resolved according to the present state of its page, and
     /// the address of the page. Nothing changes. Refused like that call, except `NoMemory`.
     pub fn next_act(&self, space: &Space) -> Result<(Act, Addr), Refusal>
         ensures accepted { OnOk result (act_refusal self.now space.now ≡ None) }
         ensures refused { IfErr result (λ refusal. act_refusal self.now space.now ≡ Some refusal) }
-        ensures act { (node : Source) (fault : guest.Fault) (rest : List guest.Fault) →
-            space_of node ≡ space.now → self.now.held ≡ fault ∷ rest →
+        ensures act { (fault : guest.Fault) → first_of self.now.held ≡ Some fault →
             IfOk result (λ next.
-            (next.0 ≡ source_act node fault) × (next.1 ≡ 4096 * fault.page)) }
+            (next.0 ≡ act_in space.now fault) × (next.1 ≡ 4096 * fault.page)) }
     {
         let fault = self.next_fault(space)?;
         Ok((act_of(space, &fault), fault.addr()))
@@ -110,18 +101,14 @@ impl DirtyLog {
         ensures accepted { OnOk result (act_refusal self.old space.old ≡ None) }
         ensures refused { IfErr result (λ refusal.
             IsRefusedAs (act_refusal self.old space.old) refusal) }
-        ensures act { (fault : guest.Fault) (rest : List guest.Fault) →
-            self.old.held ≡ fault ∷ rest →
+        ensures act { (fault : guest.Fault) → first_of self.old.held ≡ Some fault →
             IfOk result (λ done.
-            (done.0 ≡ source_act (source_of self.old space.old cpus.old) fault) ×
-            (done.1 ≡ 4096 * fault.page)) }
-        ensures acted { (fault : guest.Fault) (rest : List guest.Fault) →
-            self.old.held ≡ fault ∷ rest →
+            (done.0 ≡ act_in space.old fault) × (done.1 ≡ 4096 * fault.page)) }
+        ensures acted { (fault : guest.Fault) → first_of self.old.held ≡ Some fault →
             OnOk result (source_of self.new space.new cpus.new ≡
             source_acted (source_of self.old space.old cpus.old) fault) }
-        ensures memory { (fault : guest.Fault) (rest : List guest.Fault) →
-            self.old.held ≡ fault ∷ rest → result ≡ Err Refusal.NoMemory →
-            source_act (source_of self.old space.old cpus.old) fault ≡ Act.Zeroed }
+        ensures memory { (fault : guest.Fault) → first_of self.old.held ≡ Some fault →
+            result ≡ Err Refusal.NoMemory → act_in space.old fault ≡ Act.Zeroed }
         ensures err { OnErr result ((self.new ≡ self.old) × (space.new ≡ space.old) ×
             (cpus.new ≡ cpus.old)) }
         ensures lent { IsLent space.new }

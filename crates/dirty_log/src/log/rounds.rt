@@ -1,4 +1,4 @@
-//! How a round of pre-copy changes a log: which pages it has to send, and sending them.
+//! How a round of pre-copy changes a log: which pages it must send, and sending them.
 
 ghost use Rattle.std.specs.Prelude.{◌≡◌, ◌+◌, ◌<◌, ◌≤◌, ◌↔◌, true, Some, None, IfOk, IfErr, OnOk, OnErr};
 ghost use Rattle.std.specs.Borrow.{sem};
@@ -50,7 +50,7 @@ impl DirtyLog {
         Ok(pages)
     }
 
-    /// Begins a round that has to send these pages. It takes no memory.
+    /// Begins a round that must send these pages. It takes no memory.
     pub fn begin_round(&mut self, todo: PageSet)
         ensures { self.new ≡ record self.old { todo = todo } }
     {
@@ -67,7 +67,7 @@ impl DirtyLog {
         if page < HIGH_PAGE { Some(page) } else { None }
     }
 
-    /// The number of pages from `first` on, without a gap, that the round has to send, at most `most`.
+    /// The number of pages from `first` on, without a gap, that the round must send, at most `most`.
     pub fn run_length(&self, first: PageNo, most: u32) -> u32
         requires { first ≤ HIGH_PAGE }
         ensures run { result ≡ run_length self.now.todo first most }
@@ -79,7 +79,7 @@ impl DirtyLog {
         (end - first).min(most)
     }
 
-    /// Write-protects a page, which is clean from then on: the caller has to send its bytes before the page changes. Refused with
+    /// Write-protects a page, which is clean from then on: the caller must send its bytes before the page changes. Refused with
     /// `Changing` while an event is unread, with `PageNotSendable` if the page is missing or not registered for write-protect faults, and
     /// with `NoMemory`.
     pub fn protect_page(&mut self, space: &mut Space, page: PageNo) -> Result<(), Refusal>
@@ -133,7 +133,7 @@ impl DirtyLog {
         Ok(PageContent::read(space, page))
     }
 
-    /// Write-protects the `count` pages from `first` on, which are clean from then on: the caller has to send their bytes before a page
+    /// Write-protects the `count` pages from `first` on, which are clean from then on: the caller must send their bytes before a page
     /// changes. Refused like [`DirtyLog::protect_page`], for any page of the range.
     pub fn protect_run(
         &mut self,

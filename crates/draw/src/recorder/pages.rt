@@ -291,7 +291,7 @@ impl Recorder {
         }
     }
 
-    /// Copies of neighbouring pages have come.
+    /// Copies of neighbouring pages have arrived.
     fn copies_came(&mut self, first: PageNo, pages: u32) {
         for page in first..first.saturating_add(pages) {
             self.copy_came(page);

@@ -1,4 +1,4 @@
-//! Processors: which of them wait, and who has to act.
+//! Processors: which of them wait, and who must act.
 
 use super::tracks::note;
 use super::{Recorder, include, page_of};
@@ -25,7 +25,7 @@ impl Recorder {
         }
     }
 
-    /// Who has to act for a processor that sleeps on a page.
+    /// Who must act for a processor that sleeps on a page.
     fn cause(&self, page: PageNo) -> State {
         if matches!(self.world.phase(), WorldPhase::Switching) {
             return State::Stopped;

@@ -1,24 +1,76 @@
 //! Frames that come from the source.
 
-ghost use Rattle.std.specs.Prelude.{◌≡◌, true, None, map, option_to_list, unwrap_or, IfOk, IfErr, OnOk, OnErr};
-ghost use Rattle.std.specs.Option.{IfSome};
+ghost use Rattle.std.specs.List.{AllByRecursion};
+ghost use Rattle.std.specs.Prelude.{◌≡◌, true, None, map, unwrap_or, IfOk, IfErr, OnOk, OnErr};
 ghost use Rattle.mig_model.specs.Bounds.{IsFrame};
-ghost use Rattle.mig_model.specs.Destination.{Destination, destination_took, urgent_took};
+ghost use Rattle.mig_model.specs.Destination.{destination_answers, destination_took, received_of, recv_by, urgent_took};
 ghost use Rattle.mig_model.specs.Faults.{take_fault, urgent_fault};
 ghost use Rattle.page_stream.specs.Frames.{frame_of};
-ghost use Rattle.fault_handler.specs.Taking.{answered_at_once, takes_memory};
+ghost use Rattle.fault_handler.specs.Taking.{takes_memory};
 
 mod kinds;
 mod rules;
 
 use super::Destination;
-use mig_base::NoMemory;
 use mig_base::fault::TakeFault;
+use mig_base::phase::Received;
+use mig_base::{NoMemory, PageSet};
 use page_stream::Frame;
 
 impl Destination {
-    /// Takes a well-formed frame ([`Frame::is_well_formed`]) that the source has sent in an epoch, and returns the frame to send back at
-    /// once: Done for an End, and none for any other. For a Resume, `recovery` says before it is taken what to send.
+    /// The frames that the destination sends back when it takes a frame. A caller asks for them first, to make room for them: a taken frame
+    /// stays taken. To an End it answers with Done; to a Resume with a Recv, which says how far it has come and, if it runs, lists the pages
+    /// of the source that it still needs, and then repeats its requests; to any other frame with none. `NoMemory` if these cannot be
+    /// allocated.
+    pub fn answers(&self, frame: &Frame) -> Result<Vec<Frame>, NoMemory>
+        ensures frames { IfOk result (λ frames.
+            map frame_of frames.items ≡ destination_answers self.now (frame_of frame.now)) }
+        ensures well_formed { IfOk result (λ frames.
+            AllByRecursion IsFrame (map frame_of frames.items)) }
+    {
+        let mut frames = Vec::new(self.alloc);
+        match frame {
+            Frame::End { .. } => frames.push(Frame::Done)?,
+            Frame::Resume => return self.report(),
+            _ => {}
+        }
+        Ok(frames)
+    }
+
+    /// The answer to a Resume.
+    fn report(&self) -> Result<Vec<Frame>, NoMemory>
+        ensures frames { IfOk result (λ frames.
+            map frame_of frames.items ≡ recv_by (received_of self.now) self.now) }
+        ensures well_formed { IfOk result (λ frames.
+            AllByRecursion IsFrame (map frame_of frames.items)) }
+    {
+        let mut frames = Vec::new(self.alloc);
+        match self.received() {
+            Received::Running => {
+                let owed = self.owed().origins(self.alloc)?;
+                frames.push(Frame::Recv {
+                    state: Received::Running,
+                    owed,
+                })?;
+                frames.extend(
+                    self.requests()
+                        .iter()
+                        .map(|page| Frame::Request { page: *page }),
+                )?;
+            }
+            Received::NotRun => frames.push(Frame::Recv {
+                state: Received::NotRun,
+                owed: PageSet::new(self.alloc),
+            })?,
+            Received::Ended => frames.push(Frame::Recv {
+                state: Received::Ended,
+                owed: PageSet::new(self.alloc),
+            })?,
+        }
+        Ok(frames)
+    }
+
+    /// Takes a well-formed frame ([`Frame::is_well_formed`]) that the source has sent in an epoch.
     ///
     /// A frame that is refused is dropped, and nothing else changes. The first of these reasons counts:
     /// - `OutOfPlace`: the phase does not take such a frame; or it is an End while pages are owed, no copy waits, and no urgent frame is
@@ -29,7 +81,7 @@ impl Destination {
     /// - `InstallFirst`: an End comes while a copy waits.
     /// - `UrgentFirst`: an End comes while urgent frames are still to come.
     /// - `NoMemory`: memory for a copy, a run or a Package is refused.
-    pub fn take(&mut self, epoch: u32, frame: Frame) -> Result<Option<Frame>, TakeFault>
+    pub fn take(&mut self, epoch: u32, frame: Frame) -> Result<(), TakeFault>
         requires { IsFrame (frame_of frame) }
         ensures accepted { OnOk result (take_fault self.old epoch (frame_of frame) ≡ None) }
         ensures refused { IfErr result (λ fault.
@@ -37,20 +89,13 @@ impl Destination {
         ensures memory { IfErr result (λ fault. fault ≡ TakeFault.NoMemory →
             takes_memory (frame_of frame) ≡ true) }
         ensures took { OnOk result (self.new ≡ destination_took self.old epoch (frame_of frame)) }
-        ensures answer { IfOk result (λ answer.
-            map frame_of (option_to_list answer) ≡ answered_at_once self.old (frame_of frame)) }
-        ensures well_formed { IfOk result (λ answer.
-            IfSome answer (λ frame. IsFrame (frame_of frame))) }
         ensures err { OnErr result (self.new ≡ self.old) }
     {
         if let Some(fault) = self.take_fault(epoch, &frame) {
             return Err(fault);
         }
-        let answer = answer_to(&frame);
-        match self.put_in(epoch, frame) {
-            Ok(()) => Ok(answer),
-            Err(NoMemory) => Err(TakeFault::NoMemory),
-        }
+        self.put_in(epoch, frame)?;
+        Ok(())
     }
 
     /// Takes a well-formed frame ([`Frame::is_well_formed`]) of the urgent wire: its copy waits to be installed, and is counted. A frame
@@ -67,10 +112,8 @@ impl Destination {
         if let Some(fault) = self.urgent_fault(epoch, &frame) {
             return Err(fault);
         }
-        match self.put_in_urgent(frame) {
-            Ok(()) => Ok(()),
-            Err(NoMemory) => Err(TakeFault::NoMemory),
-        }
+        self.put_in_urgent(frame)?;
+        Ok(())
     }
 
     /// Takes a frame that is not refused. `NoMemory` changes nothing.
@@ -126,17 +169,5 @@ impl Destination {
         }
         self.urgent_taken = taken;
         Ok(())
-    }
-}
-
-/// The frame to send back at once, if any: Done for an End.
-fn answer_to(frame: &Frame) -> Option<Frame>
-    ensures answer { (node : Destination) →
-        map frame_of (option_to_list result) ≡ answered_at_once node (frame_of frame.now) }
-    ensures well_formed { IfSome result (λ frame. IsFrame (frame_of frame)) }
-{
-    match frame {
-        Frame::End { .. } => Some(Frame::Done),
-        _ => None,
     }
 }

@@ -2,7 +2,7 @@
 
 ghost use Rattle.std.specs.Option.{IfSome};
 ghost use Rattle.std.specs.Prelude.{◌≡◌, ℕ, ◌*◌, true, false, None, Some, Ok, Err, ◌∷◌, List, map, option_to_list, IfOk, IfErr, OnOk, OnErr};
-ghost use Rattle.mig_base.specs.declared.TheConstants.{PAGE_SIZE};
+ghost use Rattle.foundation.specs.declared.TheConstants.{PAGE_SIZE};
 ghost use Rattle.mig_base.specs.declared.effect.Effect as effects;
 ghost use Rattle.mig_base.specs.declared.refusal.Refusal.{Refusal};
 ghost use Rattle.mig_model.specs.Bounds.{IsFrame, IsPage};

@@ -100,7 +100,7 @@ static IN_ORDER: [(Call, Answer); 17] = [
     (Arrive(1), Came(1, 7)),
     (Arrive(0), Waits),
     (Drop, Done),
-    // None of the next frame has come.
+    // None of the next frame has arrived.
     (Arrive(15), Waits),
     (Arrive(u64::MAX), Came(1, 8)),
     (Drop, Done),
@@ -117,7 +117,7 @@ fn frames_in_their_order(rt: HostRuntime) {
     assert!(&rt; wire.is_empty());
 }
 
-/// A frame that is taken off before its bytes have come leaves none of them.
+/// A frame that is taken off before its bytes have arrived leaves none of them.
 static CUT_OFF: [(Call, Answer); 6] = [
     (Send(1, 7), Done),
     (Send(2, 8), Done),

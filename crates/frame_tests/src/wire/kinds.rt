@@ -86,7 +86,7 @@ fn arrive(wire: &mut Wire, n: u64) -> Result<Option<Sent>, NoMemory> {
     }
 }
 
-/// Whether a frame is complete once another byte has come. Its text is written.
+/// Whether a frame is complete once another byte has arrived. Its text is written.
 fn came(rt: &impl Abort, wire: &mut Wire, text: &mut Vec<u8>) -> bool {
     match arrive(wire, 1) {
         Ok(Some(sent)) => {
@@ -116,7 +116,7 @@ fn waits(rt: &impl Abort, wire: &mut Wire, bytes: &[u8], text: &mut Vec<u8>) {
     }
 }
 
-/// With one byte more the frame has come whose text these bytes are.
+/// With one byte more the frame has arrived whose text these bytes are.
 fn comes(rt: &impl Abort, alloc: Global, wire: &mut Wire, bytes: &[u8]) {
     let mut text = Vec::new(alloc);
     assert!(rt; came(rt, wire, &mut text));

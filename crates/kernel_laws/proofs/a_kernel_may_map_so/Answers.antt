@@ -1,5 +1,6 @@
 use Rattle.kernel_laws.proofs.MapReplies.{mmap-refused, mmap-taken, munmap-refused, munmap-taken}
 use Rattle.kernel_laws.proofs.Clearing.{clears-taken, dontneed-taken}
+use Rattle.kernel_laws.proofs.Remaps.{mremap-refused, mremap-taken}
 use Rattle.kernel_laws.proofs.Returns.{returned-agree}
 use Rattle.kernel_laws.proofs.a_kernel_may_map_so.Goals as goal
 
@@ -14,6 +15,12 @@ returns-clause-mmap c it made cpu start is placed = mmap-taken it cpu made.len m
 
 pub returns-clause-mmap_refused : goal.returns-clause-mmap_refused
 returns-clause-mmap_refused c it made cpu errno is = mmap-refused it cpu made.len made.prot made.place made.addr made.flags errno is
+
+pub returns-clause-mremap : goal.returns-clause-mremap
+returns-clause-mremap c it move cpu target is = mremap-taken it move cpu target is
+
+pub returns-clause-mremap_refused : goal.returns-clause-mremap_refused
+returns-clause-mremap_refused c it move cpu errno is = mremap-refused it move cpu errno is
 
 pub returns-clause-dontneed : goal.returns-clause-dontneed
 returns-clause-dontneed c it cpu addr len may = dontneed-taken it cpu addr len may.unseen may.inside

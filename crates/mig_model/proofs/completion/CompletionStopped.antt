@@ -11,8 +11,8 @@ use Rattle.mig_base.specs.declared.TheConstants.{HIGH_PAGE}
 use Rattle.mig_base.specs.declared.message.Message.{Message}
 use Rattle.mig_base.specs.declared.phase.DestPhase.{DestPhase}
 use Rattle.mig_base.specs.declared.phase.SourcePhase.{SourcePhase}
-use Rattle.mig_base.specs.Tests.{is_empty}
-use Rattle.mig_base.proofs.RangeLemmas.{least_below_tells}
+use Rattle.foundation.specs.Tests.{is_empty}
+use Rattle.foundation.proofs.RangeLemmas.{least_below_tells}
 use Rattle.mig_base.specs.Userfault.{Noted, Object, first_noted, message_read, next_message, next_of}
 use Rattle.mig_model.specs.Guest.{Guest, read_guest, is_changing}
 use Rattle.mig_model.specs.Log.{least_of}

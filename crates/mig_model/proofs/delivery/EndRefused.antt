@@ -7,7 +7,7 @@ use Rattle.mig_base.specs.declared.TheConstants.{HIGH_PAGE}
 use Rattle.mig_base.specs.declared.effect.Effect.{Effect}
 use Rattle.mig_base.specs.declared.refusal.Refusal.{Refusal}
 use Rattle.mig_base.specs.declared.schedule.Step.{Step}
-use Rattle.mig_base.proofs.RangeLemmas.{least_below-none, least_below-some}
+use Rattle.foundation.proofs.RangeLemmas.{least_below-none, least_below-some}
 use Rattle.mig_model.specs.Log.{least_of}
 use Rattle.mig_model.specs.Source.{Source, end_sent as ending, is_stopped, space_of}
 use Rattle.mig_model.specs.Migration.{World, outcome, outcome_by, source_sends}

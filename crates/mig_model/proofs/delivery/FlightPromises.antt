@@ -9,7 +9,7 @@ use Rattle.mig_base.specs.declared.phase.DestPhase.{DestPhase}
 use Rattle.mig_base.specs.declared.phase.Received.{Received}
 use Rattle.mig_base.specs.declared.phase.SourcePhase.{SourcePhase}
 use Rattle.mig_base.specs.declared.schedule.Step.{Step}
-use Rattle.mig_base.specs.Tests.{is_empty}
+use Rattle.foundation.specs.Tests.{is_empty}
 use Rattle.mig_model.specs.Wire.{Frame, Sent, wire_with}
 use Rattle.mig_model.specs.Guest.{is_present}
 use Rattle.mig_model.specs.Source.{not_clean, space_of, switch_frames}

@@ -10,7 +10,7 @@ use Rattle.std.proofs.lemmas.Bool.{false≢true, eq-eqb, leb-true, not_from_true
 use Rattle.std.proofs.lemmas.Bool.Decides.{nat_tests}
 use Rattle.mig_base.specs.declared.fault.TakeFault.{TakeFault}
 use Rattle.mig_base.specs.declared.phase.Received.{Received}
-use Rattle.mig_base.specs.Tests.{first_holding, is_empty}
+use Rattle.foundation.specs.Tests.{first_holding, is_empty}
 use Rattle.mig_base.proofs.PageLemmas.{same_pages}
 use Rattle.mig_base.proofs.SetLemmas.{member_below, same_members}
 use Rattle.mig_base.specs.declared.TheConstants.{HIGH_PAGE}

@@ -12,7 +12,7 @@ use Rattle.mig_model.specs.Source.{Source, is_source_paused, is_stopped, space_o
 use Rattle.mig_model.specs.Destination.{Destination, is_running}
 use Rattle.mig_model.specs.Faults.{is_in_place}
 
--- the epoch that a frame has to be of: Advise may be of any, Resume of a later one than the destination's, and any other of its own
+-- the epoch that a frame must be of: Advise may be of any, Resume of a later one than the destination's, and any other of its own
 abbrev pub IsOwnEpoch : Destination → ℕ → Frame → Type 0
 IsOwnEpoch node epoch Advise = Unit {0}
 IsOwnEpoch node epoch Resume = node.epoch < epoch

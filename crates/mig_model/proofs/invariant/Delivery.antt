@@ -30,10 +30,10 @@ use Rattle.mig_model.proofs.memory.Facts.{and_second, no_page, not_up, put_whole
 use Rattle.mig_model.proofs.owed.SettledLemmas.{home-some, home_tells}
 use Rattle.mig_model.proofs.invariant.Stopping.{present_below}
 use Rattle.mig_base.specs.Bytes.{zero_page}
-use Rattle.mig_base.specs.Tests.{is_empty}
+use Rattle.foundation.specs.Tests.{is_empty}
 use Rattle.mig_model.proofs.memory.HostLemmas.{get-put}
 use Rattle.mig_model.proofs.invariant.PackageTaken.{package_taken}
-use Rattle.mig_base.proofs.TestLemmas.{never_some}
+use Rattle.foundation.proofs.TestLemmas.{never_some}
 
 -- a wire that gets past End is that of a source that has sent it in this epoch
 pub ended_now : (source : Source) → flow_of source ≡ AfterEnd → source.end_epoch ≡ source.epoch

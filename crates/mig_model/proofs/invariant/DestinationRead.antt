@@ -1,4 +1,4 @@
--- What a step of the destination has to show, and that a message that is read and a command keep what every world keeps.
+-- What a step of the destination must show, and that a message that is read and a command keep what every world keeps.
 use Rattle.std.proofs.lemmas.Bool.Decides.{nat_tests}
 use Rattle.std.proofs.Common.{◌≡◌, ℕ, ◌<◌, Bool, true, false, Some, None, List, [], ◌∷◌, ◌++◌, refl, sym, ap, ◌∙◌, subst, arith, append-nil}
 use Rattle.std.specs.Ordering.{nat_cmp}
@@ -51,7 +51,7 @@ handled node guest held owed requests arrivals installed dropped faults =
 pub same_pairs : (owed : FinMap nat_cmp ℕ) (page origin : ℕ) → get owed page ≡ Some origin → (other : ℕ) × (get owed other ≡ Some origin)
 same_pairs owed page origin h = (page, h)
 
--- what such a destination has to keep
+-- what such a destination must keep
 pub record IsHandled (world : World) (guest : Guest) (owed : FinMap nat_cmp ℕ) (arrivals : List Copy) : Type 0 where
   pub space : IsSoundSpace guest.space
   pub unprotected : (page : ℕ) → contains guest.space.protected page ≡ false

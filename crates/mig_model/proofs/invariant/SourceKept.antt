@@ -28,7 +28,7 @@ use Rattle.mig_base.specs.declared.TheConstants.{HIGH_PAGE}
 use Rattle.mig_base.specs.declared.message.Message.{Message}
 use Rattle.mig_base.specs.declared.message.Message.TheVariants.{PageFault}
 use Rattle.mig_base.specs.Bytes.{zero_page}
-use Rattle.mig_base.specs.Ranges.{in_range}
+use Rattle.foundation.specs.Ranges.{in_range}
 use Rattle.mig_base.proofs.ByteLemmas.{length-zero_page, get_or-zero_page}
 use Rattle.mig_base.proofs.SetLemmas.{member_below, member_removed}
 use Rattle.mig_base.specs.Userfault.{Noted, Object, next_message, message_read}

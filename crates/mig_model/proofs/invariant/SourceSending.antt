@@ -1,7 +1,7 @@
 -- The source sends the next page of a round, or a run of neighbouring pages in one frame, and keeps what every world keeps.
 use Rattle.std.proofs.Common.{◌≡◌, ℕ, zero, suc, ◌+◌, Bool, true, false, cond, eqb, Option, Some, List, [], ◌∷◌, ◌++◌, sym, ap, ◌∙◌, length, arith, ◌&&◌, ◌||◌, ltb, is_some, unwrap_or}
 use Rattle.std.proofs.lemmas.Bool.Decides.{nat_tests}
-use Rattle.mig_base.specs.Ranges.{in_range}
+use Rattle.foundation.specs.Ranges.{in_range}
 use Rattle.std.specs.List.{list_all}
 use Rattle.std.specs.Ordering.{nat_cmp}
 use Rattle.std.specs.FinMap.{FinMap, get, insert}
@@ -24,7 +24,7 @@ use Rattle.mig_base.specs.declared.phase.SourcePhase.{SourcePhase}
 use Rattle.mig_base.specs.declared.TheConstants.{HIGH_PAGE}
 use Rattle.mig_base.specs.Bytes.{contents, zero_page}
 use Rattle.mig_base.specs.Sets.{run_length}
-use Rattle.mig_base.proofs.RangeLemmas.{least_below_tells}
+use Rattle.foundation.proofs.RangeLemmas.{least_below_tells}
 use Rattle.mig_base.proofs.SetLemmas.{member_below, member_inserted, member_removed, member_run, member_with_range, member_without}
 use Rattle.mig_model.specs.Space.{Space, IsSoundSpace}
 use Rattle.mig_model.specs.Ioctls.{protected_in}

@@ -9,7 +9,7 @@ use Rattle.mig_base.specs.declared.phase.DestPhase.{DestPhase}
 use Rattle.mig_base.specs.declared.phase.SourcePhase.{SourcePhase}
 use Rattle.mig_base.specs.declared.TheConstants.{HIGH_PAGE}
 use Rattle.mig_base.specs.Bytes.{zero_page}
-use Rattle.mig_base.specs.Ranges.{least_below}
+use Rattle.foundation.specs.Ranges.{least_below}
 use Rattle.mig_base.proofs.SetLemmas.{member_removed, same_members, member_below}
 use Rattle.mig_model.specs.Host.{IsSound}
 use Rattle.mig_model.specs.Space.{Space}
@@ -25,11 +25,11 @@ use Rattle.mig_model.proofs.invariant.WireLemmas.{flow_sent, has_package, copies
 use Rattle.mig_model.specs.Log.{least_of, no_pages, present, less}
 use Rattle.mig_model.specs.Source.{Source, bytes_of, is_stopped, page_pushed, request_served, space_of, commands_of, is_precopy, not_clean, switch_made, switch_frames}
 use Rattle.mig_model.proofs.memory.Facts.{none_absurd, eqb-self, eqb_other, low_or, copies_of-append, AreWhole-append, AreFaithful-append, AreOf-one, and_second, no_event, owed_is_present}
-use Rattle.mig_base.proofs.RangeLemmas.{least_below-some}
+use Rattle.foundation.proofs.RangeLemmas.{least_below-some}
 use Rattle.std.proofs.lemmas.Bool.Decides.{nat_tests}
 use Rattle.std.proofs.lemmas.List.{append_assoc}
 use Rattle.mig_model.proofs.memory.Facts.{and_second}
-use Rattle.mig_base.proofs.TestLemmas.{cond_not}
+use Rattle.foundation.proofs.TestLemmas.{cond_not}
 
 -- a world in these phases
 abbrev pub in_phases : SourcePhase → DestPhase → World → World

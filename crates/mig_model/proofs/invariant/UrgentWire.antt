@@ -98,7 +98,7 @@ EndTells frame world = (count : ℕ) → frame ≡ End count → (world.destinat
 pub end_tells : (world : World) (sent : Sent) (rest : List Sent) → IsSoundWorld world → AreSoundUrgent world → world.forward.frames ≡ sent ∷ rest → world.up ≡ true → EndTells sent.frame world
 end_tells world sent rest kept h first up count is = grind (arith, nat_tests)
 
--- End is taken once all urgent frames have come
+-- End is taken once all urgent frames have arrived
 pub all_came : (world : World) (sent : Sent) (rest : List Sent) → IsSoundWorld world → AreSoundUrgent world → world.forward.frames ≡ sent ∷ rest → world.up ≡ true → is_early world.destination sent.frame ≡ false →
     (count : ℕ) → sent.frame ≡ End count → world.urgent.frames ≡ []
 all_came world sent rest kept h first up early count is = grind (arith, nat_tests)

@@ -12,7 +12,7 @@ use Rattle.mig_base.specs.declared.command.Command.{Command}
 use Rattle.mig_base.specs.declared.command.Command.TheVariants.{Store, Mmap, Munmap, Mremap, DontNeed}
 use Rattle.mig_base.specs.declared.command.Reply.{Reply}
 use Rattle.mig_base.specs.declared.command.Reply.TheVariants.{Done, At, BadAccess, Refused}
-use Rattle.mig_base.specs.Ranges.{rounded, pages_of}
+use Rattle.foundation.specs.Ranges.{rounded, pages_of}
 use Rattle.mig_base.specs.Bytes.{zero_page, contents, low_bytes}
 use Rattle.mig_base.specs.Flat.{Memory, Cell, is_mapped, fill, zeros_with, clear, zeroed, moved, write, is_aligned, allows_store, access_reply, reply_of, changed}
 use Rattle.mig_base.proofs.ReplyLemmas.{IsRemapped, found_inside, mmap_inside, munmap_whole, dontneed_done, dontneed_hole, mremap_told}

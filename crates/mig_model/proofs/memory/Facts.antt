@@ -18,10 +18,10 @@ use Rattle.mig_base.specs.declared.command.Command.{Command}
 use Rattle.mig_base.specs.declared.command.Reply.{Reply}
 use Rattle.mig_base.specs.declared.effect.Effect.{Effect}
 use Rattle.mig_base.specs.declared.message.Message.{Message}
-use Rattle.mig_base.specs.Ranges.{lesser}
+use Rattle.foundation.specs.Ranges.{lesser}
 use Rattle.mig_base.specs.Bytes.{zero_page}
-pub use Rattle.mig_base.proofs.RangeLemmas.{in_range_bounds as in_range_first, in_range-one as only_one}
-pub use Rattle.mig_base.proofs.TestLemmas.{and_second, and_first as and_left, eqb-self, same_or_other, and_false, and_true, or_assoc, missing_none, below_or_at, cond_none as none_or}
+pub use Rattle.foundation.proofs.RangeLemmas.{in_range_bounds as in_range_first, in_range-one as only_one}
+pub use Rattle.foundation.proofs.TestLemmas.{and_second, and_first as and_left, eqb-self, same_or_other, and_false, and_true, or_assoc, missing_none, below_or_at, cond_none as none_or}
 use Rattle.mig_base.specs.Userfault.{Noted, Object, event_queued}
 use Rattle.mig_model.specs.Space.{all_queued, modes_after}
 use Rattle.mig_model.specs.Cpus.{call_took, entries_of}

@@ -11,9 +11,10 @@ use Rattle.mig_base.specs.declared.command.Command.{Command}
 use Rattle.mig_base.specs.declared.command.Reply.{Reply}
 use Rattle.mig_base.specs.declared.command.Reply.TheVariants.{At}
 use Rattle.mig_base.specs.declared.command.Entry.{Entry}
-use Rattle.mig_base.specs.Ranges.{count_below, in_range, rounded, free_place}
+use Rattle.foundation.specs.Ranges.{count_below, in_range, rounded}
+use Rattle.mig_base.specs.FreePlaces.{free_place}
 use Rattle.mig_base.specs.Flat.{Cell, Memory, no_memory, is_mapped, mapped_count, fill, moved, zeros_with, is_page_start, is_bad_target, has_one_prot, at_place, mmap_reply, mremap_reply, mremap_target, reply_of, changed, after, memory_from, memory_of}
-use Rattle.mig_base.proofs.RangeLemmas.{count_below-append, count_below-constant, in_range-true, in_range-false_above, in_range-false_below}
+use Rattle.foundation.proofs.RangeLemmas.{count_below-append, count_below-constant, in_range-true, in_range-false_above, in_range-false_below}
 use Rattle.mig_base.proofs.ReplyLemmas.{at_passed, mmap_inside, mremap_told, same_at}
 use Rattle.mig_base.proofs.BoundLemmas.{IsBounded, changed_bounded, remapped_inside, high_or}
 use Rattle.mig_base.proofs.BoundLemmas.{one_prot_some}

@@ -12,12 +12,12 @@ use Rattle.mig_base.specs.declared.effect.Effect.{Effect}
 use Rattle.mig_base.specs.declared.schedule.Step.{Step}
 use Rattle.mig_base.specs.declared.command.Errno.TheVariants.{Einval}
 use Rattle.mig_base.specs.declared.wake.Wake.TheVariants.{Nobody, Range}
-use Rattle.mig_base.specs.Bits.{is_one}
+use Rattle.foundation.specs.Bits.{is_one}
 use Rattle.mig_base.specs.Bytes.{zero_page}
-use Rattle.mig_base.specs.Ranges.{none_below, in_range}
+use Rattle.foundation.specs.Ranges.{none_below, in_range}
 use Rattle.mig_base.specs.Sets.{pages_where, run_length}
 use Rattle.mig_base.proofs.BitLemmas.{zero_is_no_one}
-use Rattle.mig_base.proofs.RangeLemmas.{least_below_tells}
+use Rattle.foundation.proofs.RangeLemmas.{least_below_tells}
 use Rattle.mig_base.proofs.SetLemmas.{nothing_below, member_run, run_length-some}
 use Rattle.mig_model.specs.Host.{Host, IsSound}
 use Rattle.mig_base.specs.Userfault.{Object, enabled_with, fresh_object, has_modes, is_registered}

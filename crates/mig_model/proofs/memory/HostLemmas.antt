@@ -9,11 +9,11 @@ use Rattle.std.proofs.lemmas.Bool.{eq-eqb}
 use Rattle.std.proofs.lemmas.Option.{none-some}
 use Rattle.mig_base.specs.declared.TheConstants.{HIGH, HIGH_PAGE}
 use Rattle.mig_base.specs.declared.Prot.{Prot}
-use Rattle.mig_base.specs.Ranges.{in_range, count_below}
+use Rattle.foundation.specs.Ranges.{in_range, count_below}
 use Rattle.mig_base.specs.Pages.{set_range, remove_range}
 use Rattle.mig_base.specs.Bytes.{page_at, overwrite}
 use Rattle.mig_base.specs.Flat.{Memory, Cell, no_memory, is_mapped, mapped_count, fill, clear, zeroed, moved, grown, write}
-use Rattle.mig_base.proofs.RangeLemmas.{count_below-blocks, in_range_tells}
+use Rattle.foundation.proofs.RangeLemmas.{count_below-blocks, in_range_tells}
 use Rattle.mig_base.proofs.PageLemmas.{get-set_range, get-remove_range, get-moved_range, count_below-contains_key}
 use Rattle.mig_base.proofs.ByteLemmas.{get_or-overwrite_below, get_or-overwrite_in, get_or-overwrite_above}
 use Rattle.mig_model.specs.Host.{Host, byte_in, memory, host_moved, host_dropped, IsSound}

@@ -9,17 +9,18 @@ use Rattle.std.proofs.lemmas.List.{length-take, length-drop}
 use Rattle.mig_base.specs.declared.TheConstants.{HIGH_PAGE}
 use Rattle.mig_base.specs.declared.Prot.{Prot}
 use Rattle.mig_base.specs.declared.command.Errno.{Errno}
-use Rattle.mig_base.specs.Bits.{is_one}
+use Rattle.foundation.specs.Bits.{is_one}
 use Rattle.mig_base.specs.Codes.{prot_number}
 use Rattle.mig_base.specs.Bytes.{zero_page}
-use Rattle.mig_base.specs.Ranges.{in_range, least_below}
+use Rattle.foundation.specs.Ranges.{in_range, least_below}
 use Rattle.mig_base.proofs.ByteLemmas.{length-zero_page}
-use Rattle.mig_base.proofs.RangeLemmas.{none_below_tells, in_range-none}
+use Rattle.foundation.proofs.RangeLemmas.{none_below_tells, in_range-none}
 use Rattle.mig_base.proofs.SetLemmas.{member_without, member_below}
-use Rattle.mig_base.specs.Userfault.{Mode, is_registered, message_read, enabled_with}
+use Rattle.foundation.specs.Modes.{Mode}
+use Rattle.mig_base.specs.Userfault.{is_registered, message_read, enabled_with}
 use Rattle.mig_model.specs.Space.{Space, IsSoundSpace}
 use Rattle.mig_model.specs.Ioctls.{same_protection, left_by, mode_of, registered_in, registered, register_error, range_unregistered, handshaken, put_pages, handed, missing_run, installed, same_area, is_one_area, copy_errors, copy_error, copied, zeropage_errors, zeropage_error, zeropaged, protected_in, writeprotect_errors, writeprotect_error, write_protected, read_error, read_space}
-use Rattle.mig_base.specs.Tests.{first_holding, same_bool, is_every}
+use Rattle.foundation.specs.Tests.{first_holding, same_bool, is_every}
 use Rattle.mig_model.proofs.memory.HostLemmas.{get-put}
 use Rattle.mig_model.proofs.memory.Facts.{eqb-self, none_absurd, and_second, and_left, in_range_first, some_either}
 

@@ -9,7 +9,7 @@ use Rattle.mig_base.specs.declared.Prot.{Prot}
 use Rattle.mig_base.specs.declared.command.Access.{Access}
 use Rattle.mig_base.specs.declared.command.Command.{Command}
 use Rattle.mig_base.specs.declared.command.Entry.{Entry}
-use Rattle.mig_base.specs.Ranges.{count_below}
+use Rattle.foundation.specs.Ranges.{count_below}
 use Rattle.mig_base.specs.Flat.{is_mapped, memory_of}
 use Rattle.mig_base.proofs.BoundLemmas.{memory_of_bounded, high_or}
 use Rattle.mig_model.specs.Host.{Host, IsSound, host_after, memory}

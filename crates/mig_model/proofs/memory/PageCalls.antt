@@ -13,13 +13,13 @@ use Rattle.mig_base.specs.declared.Prot.{Prot}
 use Rattle.mig_base.specs.declared.command.Errno.{Errno}
 use Rattle.mig_base.specs.declared.command.Errno.TheVariants.{Eexist}
 use Rattle.mig_base.specs.declared.wake.Wake.TheVariants.{Nobody, Range}
-use Rattle.mig_base.specs.Bits.{is_one}
+use Rattle.foundation.specs.Bits.{is_one}
 use Rattle.mig_base.specs.Bytes.{zero_page}
-use Rattle.mig_base.specs.Ranges.{in_range}
+use Rattle.foundation.specs.Ranges.{in_range}
 use Rattle.mig_base.specs.Sets.{pages_where}
-use Rattle.mig_base.specs.Tests.{is_every, same_bool}
+use Rattle.foundation.specs.Tests.{is_every, same_bool}
 use Rattle.mig_base.proofs.BitLemmas.{zero_is_no_one}
-use Rattle.mig_base.proofs.RangeLemmas.{least_below-none, none_below-from}
+use Rattle.foundation.proofs.RangeLemmas.{least_below-none, none_below-from}
 use Rattle.mig_base.specs.Userfault.{changing, is_registered}
 use Rattle.mig_model.specs.Space.{Space}
 use Rattle.mig_model.specs.Guest.{Guest, resolved, is_present, zero_installed}

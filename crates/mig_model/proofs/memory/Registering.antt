@@ -5,19 +5,21 @@ use Rattle.std.specs.FinMap.{FinMap, contains_key}
 use Rattle.std.specs.FinSet.{FinSet, contains}
 use Rattle.std.proofs.lemmas.Bool.{or_left, or_right, not_from_true}
 use Rattle.std.proofs.lemmas.Bool.Decides.{nat_tests}
-use Rattle.mig_base.specs.declared.TheConstants.{PAGE_SIZE, LOW_PAGE, HIGH_PAGE}
+use Rattle.foundation.specs.declared.TheConstants.{PAGE_SIZE}
+use Rattle.mig_base.specs.declared.TheConstants.{LOW_PAGE, HIGH_PAGE}
 use Rattle.mig_base.specs.declared.Prot.{Prot}
 use Rattle.mig_base.specs.declared.Run.{Run}
 use Rattle.mig_base.specs.declared.command.Errno.{Errno}
 use Rattle.mig_base.specs.declared.command.Errno.TheVariants.{Einval}
 use Rattle.mig_base.specs.PageSets.{in_runs}
-use Rattle.mig_base.specs.Ranges.{in_range}
+use Rattle.foundation.specs.Ranges.{in_range}
 use Rattle.mig_base.specs.Sets.{pages_where}
-use Rattle.mig_base.specs.Tests.{first_holding}
-use Rattle.mig_base.proofs.RangeLemmas.{in_range-true, none_below-not}
-use Rattle.mig_base.proofs.TestLemmas.{none_below_zero}
+use Rattle.foundation.specs.Tests.{first_holding}
+use Rattle.foundation.proofs.RangeLemmas.{in_range-true, none_below-not}
+use Rattle.foundation.proofs.TestLemmas.{none_below_zero}
 use Rattle.mig_base.proofs.SetLemmas.{member_below, same_members}
-use Rattle.mig_base.specs.Userfault.{Mode, Object, has_modes, registered_where}
+use Rattle.foundation.specs.Modes.{Mode}
+use Rattle.mig_base.specs.Userfault.{Object, has_modes, registered_where}
 use Rattle.mig_model.specs.Space.{Space, IsSoundSpace}
 use Rattle.mig_model.specs.Ioctls.{has_events, is_bad_mode, is_bad_range, is_bare, is_mapped_in, left_by, mode_of, register_error, registered, registered_in}
 use Rattle.mig_model.specs.Bounds.{IsMapping}

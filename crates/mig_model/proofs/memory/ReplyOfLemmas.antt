@@ -13,7 +13,8 @@ use Rattle.mig_base.specs.declared.command.Command.TheVariants.{Load, Store, Mma
 use Rattle.mig_base.specs.declared.command.Reply.{Reply}
 use Rattle.mig_base.specs.declared.command.Reply.TheVariants.{Value, Done, At, BadAccess, Refused}
 use Rattle.mig_base.specs.Codes.{prot_number}
-use Rattle.mig_base.specs.Ranges.{in_range, count_below, none_below, rounded, free_place}
+use Rattle.foundation.specs.Ranges.{in_range, count_below, none_below, rounded}
+use Rattle.mig_base.specs.FreePlaces.{free_place}
 use Rattle.mig_base.specs.Flat.{Cell, Memory, is_mapped, fill, zeros_with, moved, grown, written, has_one_prot, is_unmapped, exceeds_limit, mremap_target, mremap_reply, mmap_reply, dontneed_reply, place_refusals, at_place, first_refusal, is_bad_target, is_page_start, is_aligned, access_reply, allows_load, allows_store, number_at, reply_of}
 use Rattle.mig_base.specs.Commands.{is_access, page_of}
 use Rattle.mig_model.specs.Space.{is_made}

@@ -12,7 +12,7 @@ use Rattle.mig_base.specs.declared.command.Reply.{Reply}
 use Rattle.mig_base.specs.declared.command.Reply.TheVariants.{Done, At, Refused}
 use Rattle.mig_base.specs.declared.command.Access.{Access}
 use Rattle.mig_base.specs.declared.command.Access.TheVariants.{Answered, Missing, Protected}
-use Rattle.mig_base.specs.Ranges.{in_range, pages_of, rounded}
+use Rattle.foundation.specs.Ranges.{in_range, pages_of, rounded}
 use Rattle.mig_base.specs.Pages.{set_range, remove_range, moved_range}
 use Rattle.mig_base.specs.Sets.{without, moved_set}
 use Rattle.mig_base.specs.Flat.{reply_of}
@@ -22,7 +22,8 @@ use Rattle.mig_base.proofs.ReplyLemmas.{IsRemapped, mremap_told}
 use Rattle.mig_model.specs.Host.{Host, memory, host_changed, IsSound}
 use Rattle.mig_base.specs.Commands.{is_access}
 use Rattle.mig_base.proofs.BoundLemmas.{one_prot_some}
-use Rattle.mig_base.specs.Userfault.{Mode, mode_at}
+use Rattle.foundation.specs.Modes.{Mode}
+use Rattle.mig_base.specs.Userfault.{mode_at}
 use Rattle.mig_model.specs.Space.{Space, fresh_space, IsSoundSpace, access_of, accessed_by, accessed, called, modes_after, protected_after, call_messages}
 use Rattle.mig_model.proofs.memory.HostLemmas.{IsSound-empty, memory-none, get-put}
 use Rattle.mig_model.proofs.memory.CommandLemmas.{IsSound-changed}

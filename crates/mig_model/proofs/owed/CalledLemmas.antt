@@ -5,9 +5,10 @@ use Rattle.std.specs.FinMap.{contains_key}
 use Rattle.std.proofs.lemmas.Bool.Decides.{nat_tests}
 use Rattle.mig_base.specs.declared.TheConstants.{LOW, HIGH}
 use Rattle.mig_base.specs.declared.message.Message.TheVariants.{Remap, Unmap}
-use Rattle.mig_base.specs.Ranges.{in_range, lesser, none_below, pages_of, rounded}
+use Rattle.foundation.specs.Ranges.{in_range, lesser, none_below, pages_of, rounded}
 use Rattle.mig_base.specs.Flat.{Memory, is_mapped, has_one_prot}
-use Rattle.mig_base.proofs.RangeLemmas.{none_below_tells, place_found, four_hold, in_range-true}
+use Rattle.foundation.proofs.RangeLemmas.{none_below_tells, in_range-true}
+use Rattle.mig_base.proofs.FreePlaceLemmas.{place_found, four_hold}
 use Rattle.mig_base.proofs.ReplyLemmas.{IsRemapped}
 use Rattle.mig_base.proofs.ReplyLemmas.IsWhere.{Shrunk, Grew, Moved, Told}
 use Rattle.mig_base.proofs.BoundLemmas.{apart_of, one_prot_some}

@@ -8,7 +8,7 @@ use Rattle.mig_base.specs.declared.command.Command.{Command}
 use Rattle.mig_base.specs.declared.command.Command.TheVariants.{Load, Store, Mmap, Munmap, Mremap, DontNeed}
 use Rattle.mig_base.specs.declared.command.Reply.{Reply}
 use Rattle.mig_base.specs.declared.command.Reply.TheVariants.{Done, At, Refused}
-use Rattle.mig_base.specs.Ranges.{in_range, pages_of}
+use Rattle.foundation.specs.Ranges.{in_range, pages_of}
 use Rattle.mig_base.specs.Pages.{remove_range, moved_range}
 use Rattle.mig_base.proofs.PageLemmas.{same_pages, get-remove_range, get-moved_range}
 use Rattle.mig_model.specs.Host.{Host, host_changed, IsSound}

@@ -10,7 +10,7 @@ use Rattle.mig_base.specs.declared.command.Command.TheVariants.{Mmap, Munmap, Mr
 use Rattle.mig_base.specs.declared.command.Reply.{Reply}
 use Rattle.mig_base.specs.declared.command.Reply.TheVariants.{Done, At, Refused}
 use Rattle.mig_base.specs.declared.message.Message.TheVariants.{Remap, Remove, Unmap}
-use Rattle.mig_base.specs.Ranges.{lesser, pages_of, rounded}
+use Rattle.foundation.specs.Ranges.{lesser, pages_of, rounded}
 use Rattle.mig_base.specs.Flat.{reply_of}
 use Rattle.mig_base.proofs.ReplyLemmas.{mremap_told, mmap_inside, munmap_whole, dontneed_done, dontneed_hole}
 use Rattle.mig_model.specs.Host.{Host, memory, IsSound}

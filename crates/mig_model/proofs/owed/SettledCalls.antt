@@ -4,8 +4,8 @@ use Rattle.std.proofs.Common.{◌≡◌, ℕ, ◌+◌, ◌-◌, ◌*◌, ◌/◌
 use Rattle.std.proofs.lemmas.Bool.{not-false}
 use Rattle.mig_base.specs.declared.message.Message.{Message}
 use Rattle.mig_base.specs.declared.message.Message.TheVariants.{Remap, Remove, Unmap}
-use Rattle.mig_base.specs.Ranges.{in_range}
-use Rattle.mig_base.proofs.RangeLemmas.{none_below_tells}
+use Rattle.foundation.specs.Ranges.{in_range}
+use Rattle.foundation.proofs.RangeLemmas.{none_below_tells}
 use Rattle.mig_base.specs.Userfault.{Object, is_registered, event_queued, is_watched}
 use Rattle.mig_model.specs.Space.{message_if, all_queued}
 use Rattle.mig_model.specs.Invariant.{AreWholeEvents}

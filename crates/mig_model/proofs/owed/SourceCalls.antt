@@ -12,11 +12,13 @@ use Rattle.mig_base.specs.declared.command.Command.TheVariants.{Load, Store, Mma
 use Rattle.mig_base.specs.declared.command.Reply.{Reply}
 use Rattle.mig_base.specs.declared.command.Reply.TheVariants.{Done, At, Refused}
 use Rattle.mig_base.specs.declared.message.Message.TheVariants.{Remap, Unmap}
-use Rattle.mig_base.specs.Ranges.{in_range, lesser, none_below, pages_of, rounded, free_place}
+use Rattle.foundation.specs.Ranges.{in_range, lesser, none_below, pages_of, rounded}
+use Rattle.mig_base.specs.FreePlaces.{free_place}
 use Rattle.mig_base.specs.Pages.{remove_range}
 use Rattle.mig_base.specs.Sets.{without, moved_set}
 use Rattle.mig_base.specs.Flat.{is_mapped, has_one_prot, reply_of}
-use Rattle.mig_base.proofs.RangeLemmas.{none_below_tells, place_found, four_hold, none_below-from}
+use Rattle.foundation.proofs.RangeLemmas.{none_below_tells, none_below-from}
+use Rattle.mig_base.proofs.FreePlaceLemmas.{place_found, four_hold}
 use Rattle.mig_base.proofs.PageLemmas.{get-remove_range, get-moved_range}
 use Rattle.mig_base.proofs.SetLemmas.{member_without, member_below}
 use Rattle.mig_base.proofs.ReplyLemmas.{IsRemapped, found_inside, mremap_told, mmap_inside, munmap_whole, dontneed_done, dontneed_hole}

@@ -5,8 +5,8 @@ use Rattle.std.proofs.lemmas.Bool.{false≢true}
 use Rattle.mig_base.specs.declared.TheConstants.{HIGH, HIGH_PAGE}
 use Rattle.mig_base.specs.declared.message.Message.{Message}
 use Rattle.mig_base.specs.declared.message.Message.TheVariants.{Remove, Unmap}
-use Rattle.mig_base.specs.Ranges.{in_range, lesser, none_below}
-use Rattle.mig_base.proofs.RangeLemmas.{none_below_tells}
+use Rattle.foundation.specs.Ranges.{in_range, lesser, none_below}
+use Rattle.foundation.proofs.RangeLemmas.{none_below_tells}
 use Rattle.mig_base.specs.Userfault.{Noted, Object, is_registered, event_queued, is_watched}
 use Rattle.mig_model.specs.Guest.{is_changed_by, in_bytes}
 use Rattle.mig_model.specs.Space.{message_if, all_queued}

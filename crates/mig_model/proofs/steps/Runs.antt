@@ -16,7 +16,7 @@ use Rattle.mig_model.proofs.steps.StepLemmas.{next-refused}
 
 -- Answers
 
--- a step that answers NoMemory has changed nothing
+-- a step that returns NoMemory has changed nothing
 lacking_stays : (old : World) (step : Step) (result : Outcome) (new : World) → is_lacking result ≡ true → Happens old step result new → new ≡ old
 lacking_stays old step result new lacks happens = grind (arith, nat_tests, next-refused)
 

@@ -67,7 +67,7 @@ taken_keeps (p ∷ ps) (suc k) = taken_keeps ps k
 
 -- Guests
 
--- the second guest has to make what the first has to, and nothing else
+-- the second guest must make what the first must, and nothing else
 abbrev pub SameWaits : Guest → Guest → Type 0
 SameWaits old new = (k : ℕ) → outstanding (processor_at new.cpus k) ≡ outstanding (processor_at old.cpus k)
 
@@ -118,7 +118,7 @@ package_same : (epoch : ℕ) (areas : FinMap nat_cmp Prot) (owed : FinSet nat_cm
     SameWaits (guest_of world) (guest_of (delivered world (record { epoch = epoch; frame = Package areas owed commands } ∷ rest)))
 package_same epoch areas owed commands rest world up first kept k = grind (arith, nat_tests, taken_keeps)
 
--- every step but an Issue and a Retry leaves what each processor has to make
+-- every step but an Issue and a Retry leaves what each processor must make
 abbrev pub WaitsAs : World → World → Type 0
 WaitsAs world new = SameWaits (guest_of world) (guest_of new)
 

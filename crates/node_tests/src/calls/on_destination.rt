@@ -27,7 +27,6 @@ enum Taken {
     NotWellFormed,
     Took,
     SendsDone,
-    SendsOther,
     Refused(TakeFault),
 }
 
@@ -35,10 +34,13 @@ fn taken_of(destination: &mut Destination, epoch: u32, frame: Frame) -> Taken {
     if !frame.is_well_formed() {
         return Taken::NotWellFormed;
     }
+    let answers = match destination.answers(&frame) {
+        Ok(answers) => answers,
+        Err(fault) => return Taken::Refused(TakeFault::from(fault)),
+    };
     match destination.take(epoch, frame) {
-        Ok(None) => Taken::Took,
-        Ok(Some(Frame::Done)) => Taken::SendsDone,
-        Ok(Some(_)) => Taken::SendsOther,
+        Ok(()) if matches!(answers.as_slice(), [Frame::Done]) => Taken::SendsDone,
+        Ok(()) => Taken::Took,
         Err(fault) => Taken::Refused(fault),
     }
 }
@@ -59,7 +61,6 @@ fn print_taken(rt: &HostRuntime, destination: &Destination, answer: Taken) -> io
         Taken::NotWellFormed => return println!(rt; "not well formed"),
         Taken::Took => print!(rt; "took")?,
         Taken::SendsDone => print!(rt; "took, and sends Done")?,
-        Taken::SendsOther => print!(rt; "took, and sends another frame")?,
         Taken::Refused(fault) => print!(rt; "refused {fault:?}")?,
     }
     print_state(rt, destination)

@@ -1,15 +1,11 @@
 //! Calls of the source.
 
 use crate::calls::SourceCall;
-use mig_base::fault::RebuildFault;
-use mig_base::phase::SourcePhase;
 use mig_base::refusal::Refusal;
 use mig_base::schedule::Ticket;
 use mig_base::{Command, PAGE_SIZE, PageNo, Place, Prot};
 use page_stream::Frame;
-use precopy::Source;
-use recovery::{notice_source, rebuild};
-use std::alloc::Global;
+use precopy::{Source, SourceFault};
 use std::io;
 
 /// Maps 16 pages from 0x10 on, and stores to each second one.
@@ -44,51 +40,21 @@ fn print_state(rt: &HostRuntime, source: &Source) -> io::Result<()> {
     )
 }
 
-/// A frame comes back. A Recv that is accepted rebuilds what the source has to send.
+/// Takes a frame, and says how many frames answer it.
+fn taken(source: &mut Source, epoch: u32, frame: &Frame) -> Result<usize, SourceFault> {
+    let answers = source.answers(frame)?;
+    source.take(epoch, frame)?;
+    Ok(answers.len())
+}
+
+/// A frame comes back.
 pub fn back(rt: &HostRuntime, source: &mut Source, epoch: u32, frame: &Frame) -> io::Result<()> {
-    match source.back(epoch, frame) {
-        Ok(()) => {
-            let accepted = resume_from(rt.alloc(), source, frame);
-            print_accepted(rt, accepted)?
-        }
-        Err(fault) => print!(rt; "refused {fault:?}")?,
+    match (taken(source, epoch, frame), frame) {
+        (Ok(count), Frame::Recv { .. }) => print!(rt; "took, and sends {count}")?,
+        (Ok(_), _) => print!(rt; "took")?,
+        (Err(fault), _) => print!(rt; "refused {fault:?}")?,
     }
     print_state(rt, source)
-}
-
-/// What comes of a frame that was accepted.
-#[derive(Clone, Copy)]
-enum Accepted {
-    Took,
-    /// A Recv, though the source is released.
-    Released,
-    /// A Recv, for which the source sends this number of frames.
-    Sends(usize),
-    Refused(RebuildFault),
-}
-
-/// Rebuilds what a source that is not released has to send, if the frame that it took is a Recv.
-fn resume_from(alloc: Global, source: &mut Source, frame: &Frame) -> Accepted {
-    let Frame::Recv { state, owed } = frame else {
-        return Accepted::Took;
-    };
-    match source.phase() {
-        SourcePhase::Released => return Accepted::Released,
-        _ => {}
-    }
-    match rebuild(alloc, source, *state, owed) {
-        Ok(frames) => Accepted::Sends(frames.len()),
-        Err(fault) => Accepted::Refused(fault),
-    }
-}
-
-fn print_accepted(rt: &HostRuntime, accepted: Accepted) -> io::Result<()> {
-    match accepted {
-        Accepted::Took => print!(rt; "took"),
-        Accepted::Released => print!(rt; "took a Recv though it is released"),
-        Accepted::Sends(count) => print!(rt; "took, and sends {count}"),
-        Accepted::Refused(fault) => print!(rt; "refused {fault:?}"),
-    }
 }
 
 /// Pushes a page in the source's epoch.
@@ -102,15 +68,6 @@ fn push(source: &mut Source, page: PageNo, is_urgent: bool) -> Result<(), Refusa
     } else {
         source.push(ticket)?;
     }
-    Ok(())
-}
-
-/// Begins the next epoch, if there is one.
-fn begin_epoch(source: &mut Source) -> Result<(), Refusal> {
-    let Some(epoch) = source.epoch().checked_add(1) else {
-        return Err(Refusal::CountUsed);
-    };
-    source.set_epoch(epoch);
     Ok(())
 }
 
@@ -131,8 +88,8 @@ fn outcome(source: &mut Source, call: SourceCall) -> Result<(), Refusal> {
         SourceCall::Serve => done(source.serve()),
         SourceCall::Push(page) => push(source, page, false),
         SourceCall::PushUrgent(page) => push(source, page, true),
-        SourceCall::Notice => done(notice_source(source)),
-        SourceCall::NextEpoch => begin_epoch(source),
+        SourceCall::Notice => done(source.notice()),
+        SourceCall::Resume => done(source.resume()),
     }
 }
 

@@ -1,14 +1,14 @@
 //! Frames of another epoch, frames that do not fit what the destination has, and Ends that come too soon.
 
-use super::calls::Answer::{Counted, NotTaken, Stands, Told};
+use super::calls::Answer::{Counted, NotTaken, Stands, Told, Took};
 use super::calls::Call::{Counts, Install, Pause, Phase, Take, TakeUrgent};
 use super::calls::{Answer, Step};
 use super::play::{ALL_DONE, BAD, INSTALLED_10, INSTALLED_11, OUT_OF_PLACE, STALE, TOOK, play};
 use crate::frames::Sending::{Advise, Discard, End, Package, Page, Resume, Run, Zero};
-use crate::frames::{NONE, Sending};
+use crate::frames::{Brief, NONE, Sending};
 use mig_base::effect::Effect;
 use mig_base::fault::TakeFault;
-use mig_base::phase::DestPhase;
+use mig_base::phase::{DestPhase, Received};
 use mig_base::refusal::Refusal;
 
 /// Pages 0x10 to 0x13 are mapped, and 0x12 is owed.
@@ -46,7 +46,7 @@ static EPOCHS: [Step; 25] = [
     (Phase, Ok(Stands(DestPhase::Running, true, 3))),
 ];
 
-/// Pages 0x11 and 0x12 are kept. A Package may not owe one of them, nor one that it does not map, and has to map both. It is of as
+/// Pages 0x11 and 0x12 are kept. A Package may not owe one of them, nor one that it does not map, and must map both. It is of as
 /// many processors as the destination.
 static TORN: [Step; 14] = [
     (Take(1, OWES_12), OUT_OF_PLACE),
@@ -101,7 +101,10 @@ static COUNTED_ANEW: [Step; 13] = [
     (TakeUrgent(1, Page(0x10, 1)), TOOK),
     (TakeUrgent(1, Page(0x10, 1)), TOOK),
     (Pause, Ok(Answer::Done)),
-    (Take(2, Resume), TOOK),
+    (
+        Take(2, Resume),
+        Ok(Took(Some(Brief::Recv(Received::Running, (0x10, 1))))),
+    ),
     (Take(2, End(0)), INSTALL_FIRST),
     (Install, Ok(INSTALLED_10)),
     (Take(2, End(0)), INSTALL_FIRST),

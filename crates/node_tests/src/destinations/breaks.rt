@@ -1,6 +1,6 @@
 //! Breaks that a destination notices, and how it continues.
 
-use super::calls::Answer::{Acts, Asleep, Counted, Done, Replied, Reports, Sends, Stands, Told};
+use super::calls::Answer::{Acts, Asleep, Counted, Done, Replied, Sends, Stands, Told, Took};
 use super::calls::Call::{
     Act, Counts, Install, Load, Notice, Pause, Phase, Read, Report, Rerequest, Retry, Take,
     TakeUrgent,
@@ -22,7 +22,7 @@ const NOTICED: Answer = Told(Effect::Noticed {
     side: Side::Destination,
 });
 
-const HAS_NOT_RUN: Answer = Reports(Brief::Recv(Received::NotRun, NONE));
+const HAS_NOT_RUN: Answer = Took(Some(Brief::Recv(Received::NotRun, NONE)));
 
 /// A destination that has not run discards its kept copies: page 0x10 does not contradict a Package that owes it.
 static BEFORE_THE_RUN: [Step; 23] = [
@@ -34,14 +34,14 @@ static BEFORE_THE_RUN: [Step; 23] = [
     (Report, Ok(HAS_NOT_RUN)),
     (Rerequest, Ok(Sends((None, None, None)))),
     (Take(1, Resume), STALE),
-    (Take(2, Resume), TOOK),
+    (Take(2, Resume), Ok(HAS_NOT_RUN)),
     (Phase, Ok(Stands(DestPhase::Advised, false, 2))),
     (Take(1, Page(0x11, 2)), STALE),
     (Take(2, Page(0x11, 2)), TOOK),
     (Take(2, Discard(NONE)), TOOK),
     (Pause, Ok(Done)),
     (Report, Ok(HAS_NOT_RUN)),
-    (Take(4, Resume), TOOK),
+    (Take(4, Resume), Ok(HAS_NOT_RUN)),
     (Phase, Ok(Stands(DestPhase::Advised, false, 4))),
     (Take(4, Page(0x12, 3)), TOOK),
     (Take(4, Discard(NONE)), TOOK),
@@ -57,7 +57,7 @@ static NOTICED_ONCE: [Step; 8] = [
     (Notice, Ok(NOTICED)),
     (Phase, Ok(Stands(DestPhase::Paused, false, 1))),
     (Notice, Err(Refusal::Phase)),
-    (Take(2, Resume), TOOK),
+    (Take(2, Resume), Ok(HAS_NOT_RUN)),
     (Phase, Ok(Stands(DestPhase::Advised, false, 2))),
     (Notice, Ok(NOTICED)),
     (Phase, Ok(Stands(DestPhase::Paused, false, 2))),
@@ -67,7 +67,7 @@ static NOTICED_ONCE: [Step; 8] = [
 static NEVER_ADVISED: [Step; 5] = [
     (Pause, Ok(Done)),
     (Take(0, Resume), STALE),
-    (Take(1, Resume), TOOK),
+    (Take(1, Resume), Ok(HAS_NOT_RUN)),
     (Phase, Ok(Stands(DestPhase::Advised, false, 1))),
     (Take(1, Zero(0x10)), TOOK),
 ];
@@ -98,7 +98,7 @@ static WHILE_IT_RUNS: [Step; 34] = [
     (Act, Ok(Acts(REQUESTED_10, None))),
     (
         Report,
-        Ok(Reports(Brief::Recv(Received::Running, (0x10, 3)))),
+        Ok(Took(Some(Brief::Recv(Received::Running, (0x10, 3))))),
     ),
     (Rerequest, Ok(ASKED_FOR_BOTH)),
     (Take(1, Page(0x11, 5)), OUT_OF_PLACE),
@@ -107,10 +107,13 @@ static WHILE_IT_RUNS: [Step; 34] = [
     (Load(1, 0x13000), Ok(Replied(1, Reply::Value(6)))),
     (
         Report,
-        Ok(Reports(Brief::Recv(Received::Running, (0x11, 2)))),
+        Ok(Took(Some(Brief::Recv(Received::Running, (0x11, 2))))),
     ),
     (Rerequest, Ok(ASKED_FOR_12)),
-    (Take(2, Resume), TOOK),
+    (
+        Take(2, Resume),
+        Ok(Took(Some(Brief::Recv(Received::Running, (0x11, 2))))),
+    ),
     (Phase, Ok(Stands(DestPhase::Running, true, 2))),
     (Rerequest, Ok(ASKED_FOR_12)),
     (Take(1, Page(0x12, 7)), STALE),
@@ -121,7 +124,7 @@ static WHILE_IT_RUNS: [Step; 34] = [
     (Rerequest, Ok(Sends((None, None, None)))),
     (
         Report,
-        Ok(Reports(Brief::Recv(Received::Running, (0x11, 1)))),
+        Ok(Took(Some(Brief::Recv(Received::Running, (0x11, 1))))),
     ),
     (Take(2, Zero(0x11)), TOOK),
     (Install, Ok(INSTALLED_11)),
@@ -136,9 +139,12 @@ static AFTER_THE_END: [Step; 11] = [
     (Take(1, End(0)), ALL_DONE),
     (Pause, Ok(Done)),
     (Phase, Ok(Stands(DestPhase::Paused, true, 1))),
-    (Report, Ok(Reports(Brief::Recv(Received::Ended, NONE)))),
+    (Report, Ok(Took(Some(Brief::Recv(Received::Ended, NONE))))),
     (Rerequest, Ok(Sends((None, None, None)))),
-    (Take(2, Resume), TOOK),
+    (
+        Take(2, Resume),
+        Ok(Took(Some(Brief::Recv(Received::Ended, NONE)))),
+    ),
     (Phase, Ok(Stands(DestPhase::Ended, true, 2))),
     (Take(2, End(0)), OUT_OF_PLACE),
 ];

@@ -11,7 +11,6 @@ use mig_base::phase::DestPhase;
 use mig_base::refusal::Refusal;
 use mig_base::{Addr, Command, NoMemory, PAGE_SIZE, PageNo, Place, Prot, Reply};
 use page_stream::Frame;
-use recovery::{report_received, rerequest};
 use std::alloc::Global;
 use std::process::Abort;
 
@@ -44,9 +43,9 @@ pub enum Call {
     NextInstall,
     Pause,
     Notice,
-    /// How far it has come, as a Recv reports it.
+    /// How far it has come, as a Recv reports it: the first frame with which it would answer a Resume.
     Report,
-    /// Its requests once more.
+    /// Its requests once more: the frames that follow it.
     Rerequest,
     /// How far it is, whether it has run, and its epoch.
     Phase,
@@ -61,7 +60,7 @@ pub enum Call {
 #[derive(Clone, Copy, PartialEq, Eq)]
 pub enum Answer {
     Done,
-    /// A frame was taken, and this is to be sent at once.
+    /// A frame was taken, and this is the first that answers it; or that would answer a Resume.
     Took(Option<Brief>),
     NotTaken(TakeFault),
     /// A command was answered, and was entered.
@@ -79,9 +78,7 @@ pub enum Answer {
     WouldAct(Act, Addr),
     /// A page of the source, and where it would be installed.
     WouldInstall(PageNo, Option<PageNo>),
-    /// The frame that tells how far it has come.
-    Reports(Brief),
-    /// The first of the frames that ask anew.
+    /// The first of the frames that ask again.
     Sends((Option<Brief>, Option<Brief>, Option<Brief>)),
     Stands(DestPhase, bool, u32),
     /// Copies installed, copies dropped and faults read; copies that wait; and pages that are owed.
@@ -91,8 +88,8 @@ pub enum Answer {
 }
 
 use Answer::{
-    Acts, Asleep, At, Counted, Done, InCall, Is, NotTaken, Replied, Reports, Sends, Stands, Told,
-    Took, Unfit, WouldAct, WouldInstall,
+    Acts, Asleep, At, Counted, Done, InCall, Is, NotTaken, Replied, Sends, Stands, Told, Took,
+    Unfit, WouldAct, WouldInstall,
 };
 
 /// A call with the answer that is wanted.
@@ -103,6 +100,12 @@ fn brief_of(frame: Option<Frame>) -> Option<Brief> {
         Some(frame) => Some(Brief::of(&frame)),
         None => None,
     }
+}
+
+/// The first of the frames that answer another.
+fn first_of(answers: &[Frame]) -> Option<Brief> {
+    let (first, _, _) = Brief::of_first(answers);
+    first
 }
 
 /// The answer for a frame that was refused.
@@ -121,8 +124,9 @@ fn take(
     frame: Frame,
 ) -> Result<Answer, Refusal> {
     assert!(rt; frame.is_well_formed());
+    let answers = destination.answers(&frame)?;
     match destination.take(epoch, frame) {
-        Ok(answer) => Ok(Took(brief_of(answer))),
+        Ok(()) => Ok(Took(first_of(&answers))),
         Err(fault) => not_taken(fault),
     }
 }
@@ -176,17 +180,16 @@ fn acted(destination: &mut Destination) -> Result<Answer, Refusal> {
     }
 }
 
-fn report(alloc: Global, destination: &Destination) -> Result<Answer, Refusal> {
-    match report_received(alloc, destination) {
-        Ok(frame) => Ok(Reports(Brief::of(&frame))),
-        Err(NoMemory) => Err(Refusal::NoMemory),
-    }
+fn report(destination: &Destination) -> Result<Answer, Refusal> {
+    let answers = destination.answers(&Frame::Resume)?;
+    Ok(Took(first_of(&answers)))
 }
 
-fn requested(alloc: Global, destination: &Destination) -> Result<Answer, Refusal> {
-    match rerequest(alloc, destination) {
-        Ok(frames) => Ok(Sends(Brief::of_first(&frames))),
-        Err(NoMemory) => Err(Refusal::NoMemory),
+fn requested(destination: &Destination) -> Result<Answer, Refusal> {
+    let answers = destination.answers(&Frame::Resume)?;
+    match answers.as_slice() {
+        [_recv, requests @ ..] => Ok(Sends(Brief::of_first(requests))),
+        [] => Ok(Sends(Brief::of_first(&[Frame::Resume]))),
     }
 }
 
@@ -224,10 +227,10 @@ fn counts(destination: &Destination) -> Answer {
 }
 
 /// Asks for what a destination knows.
-fn asked(alloc: Global, destination: &Destination, call: Call) -> Result<Answer, Refusal> {
+fn asked(destination: &Destination, call: Call) -> Result<Answer, Refusal> {
     match call {
-        Call::Report => report(alloc, destination),
-        Call::Rerequest => requested(alloc, destination),
+        Call::Report => report(destination),
+        Call::Rerequest => requested(destination),
         Call::NextAct => next_act(destination),
         Call::NextInstall => next_install(destination),
         Call::Home(origin) => Ok(At(destination.owed().home(origin))),
@@ -334,6 +337,6 @@ pub fn make(
         Call::Install => told(destination.install()),
         Call::Pause => pause(destination),
         Call::Notice => told(destination.notice()),
-        _ => asked(alloc, destination, call),
+        _ => asked(destination, call),
     }
 }

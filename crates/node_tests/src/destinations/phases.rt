@@ -1,15 +1,15 @@
 //! Each frame in each phase.
 
-use super::calls::Answer::{Counted, Done, Stands, Told};
+use super::calls::Answer::{Counted, Done, Stands, Told, Took};
 use super::calls::Call::{Act, Counts, Install, Load, Pause, Phase, Read, Retry, Take, TakeUrgent};
 use super::calls::{Answer, Step};
 use super::play::{ALL_DONE, OUT_OF_PLACE, STALE, TOOK, play};
 use crate::frames::Sending::{
     Advise, Discard, End, Package, Page, Recv, Request, Resume, Run, Zero,
 };
-use crate::frames::{NONE, Sending};
+use crate::frames::{Brief, NONE, Sending};
 use mig_base::effect::Effect;
-use mig_base::phase::DestPhase;
+use mig_base::phase::{DestPhase, Received};
 use mig_base::refusal::Refusal;
 
 /// Pages 0x10 to 0x13 are mapped, and none is owed.
@@ -156,7 +156,10 @@ static PAUSED: [Step; 21] = [
     (TakeUrgent(1, Page(0x10, 1)), OUT_OF_PLACE),
     (Take(0, Resume), STALE),
     (Take(1, Resume), STALE),
-    (Take(5, Resume), TOOK),
+    (
+        Take(5, Resume),
+        Ok(Took(Some(Brief::Recv(Received::Running, NONE)))),
+    ),
     (Phase, Ok(Stands(DestPhase::Running, true, 5))),
     (Take(5, Resume), OUT_OF_PLACE),
 ];

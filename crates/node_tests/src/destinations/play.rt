@@ -13,7 +13,7 @@ use mig_base::{Command, Message, PageNo, Reply};
 use std::alloc::Global;
 use std::process::Abort;
 
-/// What a refused call has to leave.
+/// What a refused call must leave.
 #[derive(Clone, Copy, PartialEq)]
 struct Picture {
     phase: DestPhase,

@@ -1,7 +1,7 @@
 //! What a destination does once it runs, from the copies that come before to the End.
 
 use super::calls::Answer::{
-    Acts, Asleep, At, Counted, InCall, Is, Replied, Reports, Sends, Stands, Told, WouldAct,
+    Acts, Asleep, At, Counted, InCall, Is, Replied, Sends, Stands, Told, Took, WouldAct,
     WouldInstall,
 };
 use super::calls::Call::{
@@ -71,7 +71,7 @@ static ASKED_FOR: [Step; 49] = [
     (Rerequest, Ok(Sends((None, None, None)))),
     (Take(1, End(0)), ALL_DONE),
     (Phase, Ok(Stands(DestPhase::Ended, true, 1))),
-    (Report, Ok(Reports(Brief::Recv(Received::Ended, NONE)))),
+    (Report, Ok(Took(Some(Brief::Recv(Received::Ended, NONE))))),
     (Load(1, 0x11000), Ok(Asleep(1))),
     (
         Read,
@@ -124,7 +124,7 @@ static MOVED: [Step; 23] = [
     (Home(0x10), Ok(At(Some(0x20)))),
     (
         Report,
-        Ok(Reports(Brief::Recv(Received::Running, (0x10, 1)))),
+        Ok(Took(Some(Brief::Recv(Received::Running, (0x10, 1))))),
     ),
     (NextAct, Ok(WouldAct(Resolving::Requested(0x10), 0x20000))),
     (

@@ -1,22 +1,22 @@
 //! Breaks, and the recovery from them.
 
-use super::calls::Answer::{Counted, Done, Gives, Hands, NotTaken, Sends, Stands, Told, Tries};
+use super::calls::Answer::{Counted, Done, Hands, NotTaken, Sends, Stands, Told, Tries};
 use super::calls::Call::{
-    Back, Counts, End, Map, Package, Pause, Phase, Push, PushUrgent, Release, Round, Send, Serve,
-    SetEpoch, Start, Store, Switch, ToPrecopy, ToStopped,
+    Back, Counts, End, Map, Notice, Phase, Push, PushUrgent, Resume, Round, Send, Serve, Start,
+    Store, Switch,
 };
-use super::calls::{Brief, Heard};
-use super::play::{AT_10, DONE_0, IDLE, PAGE_10, PAGE_11, STARTED, Steps, play};
+use super::calls::{Brief, HAS_ENDED, HAS_NOT_RUN, Heard};
+use super::play::{AT_10, DONE_0, IDLE, NOTICED, PAGE_10, PAGE_11, STARTED, Steps, play};
 use crate::frames::NOWHERE;
 use mig_base::effect::Effect;
-use mig_base::fault::BackFault;
-use mig_base::phase::SourcePhase;
+use mig_base::phase::{Received, SourcePhase};
 use mig_base::refusal::Refusal;
+use precopy::SourceFault;
 use std::test::Fail;
 
 /// A break before the switch: what was sent is forgotten. Then one after it: what remains is set anew, and requests are
 /// dropped.
-static BROKEN: Steps<43> = [
+static BROKEN: Steps<41> = [
     (Map(0, 0x2000), Ok(Tries(AT_10))),
     (Store(0, 0x10000, 1), Ok(Tries(DONE_0))),
     (Store(0, 0x11000, 2), Ok(Tries(DONE_0))),
@@ -24,17 +24,20 @@ static BROKEN: Steps<43> = [
     (Round, Ok(Told(Effect::RoundMade { round: 1, todo: 2 }))),
     (Send, Ok(Sends(PAGE_10, Brief::Page(0x10, 1)))),
     (Counts, Ok(Counted([2, 0, 1, 1, 1, 0], 0))),
-    (Pause, Ok(Done)),
+    (Notice, Ok(Told(NOTICED))),
     (Counts, Ok(Counted([2, 0, 1, 1, 1, 0], 0))),
     (
         Back(1, Heard::Request(0x10)),
-        Ok(NotTaken(BackFault::OutOfPlace)),
+        Ok(NotTaken(SourceFault::OutOfPlace)),
     ),
-    (Back(2, Heard::Recv), Ok(NotTaken(BackFault::StaleEpoch))),
-    (Back(1, Heard::Recv), Ok(Done)),
+    (Back(2, HAS_NOT_RUN), Ok(NotTaken(SourceFault::StaleEpoch))),
+    (Back(1, HAS_ENDED), Ok(NotTaken(SourceFault::BadOwed))),
     (Phase, Ok(Stands(SourcePhase::Paused, false, 1))),
-    (SetEpoch(2), Ok(Done)),
-    (ToPrecopy, Ok(Done)),
+    (
+        Resume,
+        Ok(Sends(Effect::Resumed { epoch: 2 }, Brief::Resume)),
+    ),
+    (Back(2, HAS_NOT_RUN), Ok(Done)),
     (Phase, Ok(Stands(SourcePhase::Precopy, false, 2))),
     (Counts, Ok(Counted([2, 0, 0, 0, 0, 0], 0))),
     (Send, Err(Refusal::NothingThere)),
@@ -56,34 +59,29 @@ static BROKEN: Steps<43> = [
         Ok(Sends(PAGE_11, Brief::Page(0x11, 2))),
     ),
     (Counts, Ok(Counted([2, 0, 1, 1, 1, 1], 0))),
-    (Pause, Ok(Done)),
+    (Notice, Ok(Told(NOTICED))),
     (Push(2, 0x11), Err(Refusal::Phase)),
     (PushUrgent(2, 0x11), Err(Refusal::Phase)),
     (
         Back(2, Heard::Request(0x11)),
-        Ok(NotTaken(BackFault::OutOfPlace)),
+        Ok(NotTaken(SourceFault::OutOfPlace)),
     ),
-    (SetEpoch(3), Ok(Done)),
-    (ToStopped(0x10, 2, 5), Ok(Done)),
+    (
+        Resume,
+        Ok(Sends(Effect::Resumed { epoch: 3 }, Brief::Resume)),
+    ),
+    (Back(3, Heard::Recv(Received::Running, (0x10, 2))), Ok(Done)),
     (Phase, Ok(Stands(SourcePhase::Stopped, true, 3))),
-    (Counts, Ok(Counted([2, 2, 1, 1, 1, 5], 0))),
+    (Counts, Ok(Counted([2, 2, 1, 1, 1, 1], 0))),
     (Serve, Err(Refusal::NothingThere)),
     (Push(2, 0x11), Err(Refusal::StaleEpoch)),
     (Push(3, 0x11), Ok(Sends(PAGE_11, Brief::Page(0x11, 2)))),
     (End, Err(Refusal::PagesLeft)),
-    (
-        Package(0x10, 1),
-        Ok(Gives(Brief::Package(2, 0x10, 1, IDLE))),
-    ),
     (Push(3, 0x10), Ok(Sends(PAGE_10, Brief::Page(0x10, 1)))),
     (End, Ok(Sends(Effect::EndSent, Brief::End(0)))),
-    (Release, Ok(Done)),
+    (Back(3, Heard::Done), Ok(Done)),
     (Phase, Ok(Stands(SourcePhase::Released, true, 3))),
-    (Counts, Ok(Counted([0, 0, 0, 0, 0, 5], 0))),
-    (
-        Package(0x10, 0),
-        Ok(Gives(Brief::Package(0, NOWHERE, 0, IDLE))),
-    ),
+    (Counts, Ok(Counted([0, 0, 0, 0, 0, 1], 0))),
 ];
 
 #[test]

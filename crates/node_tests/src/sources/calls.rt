@@ -1,21 +1,17 @@
 //! Calls of a source, and what they answer.
 
-ghost use Rattle.std.specs.Prelude.{◌≡◌, false};
-ghost use Rattle.mig_model.specs.Source.{is_released};
-
-use crate::frames::{Range, set_of};
+use crate::frames::{NONE, Range, set_of};
 use dirty_log::{DirtyLog, PageContent};
 use guest::Tried;
 use mig_base::act::Act as Resolving;
 use mig_base::cpu_state::CpuState;
 use mig_base::effect::Effect;
-use mig_base::fault::BackFault;
 use mig_base::phase::{Received, SourcePhase};
 use mig_base::refusal::Refusal;
 use mig_base::schedule::Ticket;
-use mig_base::{Addr, Command, NoMemory, PageNo, PageSet, Place, Prot};
+use mig_base::{Addr, Command, NoMemory, PageNo, Place, Prot};
 use page_stream::{Frame, Waiting};
-use precopy::Source;
+use precopy::{Source, SourceFault};
 use std::alloc::Global;
 use std::process::Abort;
 
@@ -50,14 +46,8 @@ pub(super) enum Call {
     End,
     /// A frame comes back, of an epoch.
     Back(u32, Heard),
-    Pause,
-    SetEpoch(u32),
-    ToPrecopy,
-    /// The first page that remains, how many they are, and how many were owed.
-    ToStopped(PageNo, u32, u32),
-    Release,
-    /// A Package that owes this many pages from the first on.
-    Package(PageNo, u32),
+    Notice,
+    Resume,
     /// How far the source is.
     Phase,
     /// What it counts.
@@ -67,20 +57,24 @@ pub(super) enum Call {
 }
 
 use Call::{
-    Act, Back, Counts, Cpu, DontNeed, End, Load, Map, NextAct, NextRemaining, NextRun, Package,
-    Pause, Phase, Push, PushUrgent, Read, Release, Retry, Round, RunSent, Send, SendRun, Serve,
-    SetEpoch, Start, Store, Switch, ToPrecopy, ToStopped,
+    Act, Back, Counts, Cpu, DontNeed, End, Load, Map, NextAct, NextRemaining, NextRun, Notice,
+    Phase, Push, PushUrgent, Read, Resume, Retry, Round, RunSent, Send, SendRun, Serve, Start,
+    Store, Switch,
 };
 
 /// A frame from the destination.
 #[derive(Clone, Copy)]
 pub(super) enum Heard {
     Request(PageNo),
-    Recv,
+    Recv(Received, Range),
     Done,
     /// One that only a source sends.
     Advise,
 }
+
+pub(super) const HAS_NOT_RUN: Heard = Heard::Recv(Received::NotRun, NONE);
+
+pub(super) const HAS_ENDED: Heard = Heard::Recv(Received::Ended, NONE);
 
 /// A pair, and no array: tables are statics, which cannot be borrowed where they hold arrays of these.
 pub(super) type Two<T> = (T, T);
@@ -99,6 +93,7 @@ pub(super) enum Brief {
     /// The mapped pages, the first owed one and how many they are, and the commands of two processors.
     Package(u32, PageNo, u32, Two<Option<Command>>),
     End(u32),
+    Resume,
     /// One that no source sends.
     Unfit,
 }
@@ -113,13 +108,12 @@ pub(super) enum Answer {
     Told(Effect),
     Sends(Effect, Brief),
     Hands(Effect, Two<Brief>),
-    Gives(Brief),
     /// A first page, and how many they are.
     Finds(PageNo, u32),
     Marks(Effect, PageNo, u32),
     WouldAct(Resolving, Addr),
     Remains(Option<PageNo>),
-    NotTaken(BackFault),
+    NotTaken(SourceFault),
     /// The phase, whether the source has switched, and its epoch.
     Stands(SourcePhase, bool, u32),
     /// How many pages are present, remaining, clean, in the run that is sent next and ever sent, how many were owed, and how many faults
@@ -129,8 +123,7 @@ pub(super) enum Answer {
 }
 
 use Answer::{
-    Counted, Done, Finds, Gives, Hands, Is, Marks, NotTaken, Remains, Sends, Stands, Told, Tries,
-    WouldAct,
+    Counted, Done, Finds, Hands, Is, Marks, NotTaken, Remains, Sends, Stands, Told, Tries, WouldAct,
 };
 
 /// The commands of the first two processors.
@@ -162,6 +155,7 @@ impl Brief {
                 first_two(commands),
             ),
             Frame::End { urgent } => Brief::End(*urgent),
+            Frame::Resume => Brief::Resume,
             _ => Brief::Unfit,
         }
     }
@@ -241,69 +235,31 @@ fn handed(answer: Result<(Effect, Frame, Frame), Refusal>) -> Result<Answer, Ref
     }
 }
 
-/// Stops where a source is released.
-pub fn not_released(rt: &impl Abort, source: &Source)
-    ensures { is_released source.now.phase ≡ false }
-{
-    assert!(rt; source.phase() != SourcePhase::Released);
-}
-
-fn frame(alloc: Global, heard: Heard) -> Frame {
-    match heard {
+fn frame(rt: &impl Abort, alloc: Global, heard: Heard) -> Result<Frame, NoMemory> {
+    Ok(match heard {
         Heard::Request(page) => Frame::Request { page },
-        Heard::Recv => Frame::Recv {
-            state: Received::Running,
-            owed: PageSet::new(alloc),
+        Heard::Recv(state, range) => Frame::Recv {
+            state,
+            owed: set_of(rt, alloc, range)?,
         },
         Heard::Done => Frame::Done,
         Heard::Advise => Frame::Advise,
-    }
+    })
 }
 
-/// A frame comes back.
-fn back(source: &mut Source, epoch: u32, frame: &Frame) -> Result<Answer, Refusal> {
-    match source.back(epoch, frame) {
-        Ok(()) => Ok(Done),
-        Err(BackFault::NoMemory) => Err(Refusal::NoMemory),
-        Err(fault) => Ok(NotTaken(fault)),
-    }
-}
-
-fn to_stopped(
+/// A frame comes back. What answers it is looked at in `rebuilds`.
+fn back(
     rt: &impl Abort,
     alloc: Global,
     source: &mut Source,
-    range: Range,
-    packaged: u32,
+    epoch: u32,
+    heard: Heard,
 ) -> Result<Answer, Refusal> {
-    assert!(rt; source.has_switched());
-    not_released(rt, source);
-    match set_of(rt, alloc, range) {
-        Ok(pages) => {
-            source.to_stopped(pages, packaged);
-            Ok(Done)
-        }
-        Err(NoMemory) => Err(Refusal::NoMemory),
-    }
-}
-
-fn package_of(source: &Source, owed: &PageSet) -> Result<Answer, Refusal> {
-    match source.package(owed) {
-        Ok(frame) => Ok(Gives(Brief::of(&frame))),
-        Err(NoMemory) => Err(Refusal::NoMemory),
-    }
-}
-
-fn package(
-    rt: &impl Abort,
-    alloc: Global,
-    source: &Source,
-    first: PageNo,
-    count: u32,
-) -> Result<Answer, Refusal> {
-    match set_of(rt, alloc, (first, count)) {
-        Ok(owed) => package_of(source, &owed),
-        Err(NoMemory) => Err(Refusal::NoMemory),
+    let frame = frame(rt, alloc, heard)?;
+    match source.take(epoch, &frame) {
+        Ok(()) => Ok(Done),
+        Err(SourceFault::NoMemory) => Err(Refusal::NoMemory),
+        Err(fault) => Ok(NotTaken(fault)),
     }
 }
 
@@ -317,7 +273,7 @@ pub(super) fn next_run(log: &DirtyLog) -> u32 {
 
 /// The number of pages that are present.
 fn present(source: &Source) -> Result<u32, Refusal> {
-    match source.present() {
+    match source.space().present() {
         Ok(pages) => Ok(pages.len()),
         Err(NoMemory) => Err(Refusal::NoMemory),
     }
@@ -364,50 +320,6 @@ fn command(call: Call) -> Option<(u8, Command)> {
     }
 }
 
-fn pause(rt: &impl Abort, source: &mut Source) -> Result<Answer, Refusal> {
-    not_released(rt, source);
-    source.pause();
-    Ok(Done)
-}
-
-fn set_epoch(rt: &impl Abort, source: &mut Source, epoch: u32) -> Result<Answer, Refusal> {
-    assert!(rt; source.epoch() < epoch);
-    source.set_epoch(epoch);
-    Ok(Done)
-}
-
-fn to_precopy(rt: &impl Abort, source: &mut Source) -> Result<Answer, Refusal> {
-    assert!(rt; !source.has_switched());
-    source.to_precopy();
-    Ok(Done)
-}
-
-fn release(rt: &impl Abort, source: &mut Source) -> Result<Answer, Refusal> {
-    assert!(rt; source.has_switched());
-    source.release();
-    Ok(Done)
-}
-
-/// Makes a call of the recovery, or asks for what a source knows.
-fn recovered(
-    rt: &impl Abort,
-    alloc: Global,
-    source: &mut Source,
-    call: Call,
-) -> Result<Answer, Refusal> {
-    match call {
-        Back(epoch, heard) => back(source, epoch, &frame(alloc, heard)),
-        Pause => pause(rt, source),
-        SetEpoch(epoch) => set_epoch(rt, source, epoch),
-        ToPrecopy => to_precopy(rt, source),
-        ToStopped(first, count, packaged) => {
-            to_stopped(rt, alloc, source, (first, count), packaged)
-        }
-        Release => release(rt, source),
-        _ => asked(rt, alloc, source, call),
-    }
-}
-
 fn next_run_of(source: &Source, most: u8) -> Result<Answer, Refusal> {
     match source.next_run(most) {
         Ok((first, count)) => Ok(Finds(first, count)),
@@ -437,12 +349,11 @@ fn state(source: &Source, cpu: u8) -> Result<Answer, Refusal> {
 }
 
 /// Asks a source what it is, or would do next.
-fn asked(rt: &impl Abort, alloc: Global, source: &Source, call: Call) -> Result<Answer, Refusal> {
+fn asked(source: &Source, call: Call) -> Result<Answer, Refusal> {
     match call {
         NextRun(most) => next_run_of(source, most),
         NextAct => next_act(source),
         NextRemaining(from) => Ok(Remains(source.next_remaining(from))),
-        Package(first, count) => package(rt, alloc, source, first, count),
         Phase => Ok(Stands(source.phase(), source.has_switched(), source.epoch())),
         Cpu(cpu) => state(source, cpu),
         _ => counts(source),
@@ -473,6 +384,9 @@ pub(super) fn make(
         PushUrgent(epoch, page) => push_urgent(source, Ticket { epoch, page }),
         Serve => told(source.serve()),
         End => sent(source.end()),
-        _ => recovered(rt, alloc, source, call),
+        Back(epoch, heard) => back(rt, alloc, source, epoch, heard),
+        Notice => told(source.notice()),
+        Resume => sent(source.resume()),
+        _ => asked(source, call),
     }
 }

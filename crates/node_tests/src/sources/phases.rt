@@ -2,22 +2,22 @@
 
 use super::calls::Answer::{Counted, Done, Hands, NotTaken, Sends, Stands, Told, Tries};
 use super::calls::Call::{
-    Act, Back, Counts, End, Load, Map, Pause, Phase, Push, PushUrgent, Read, Release, Round, Send,
-    SendRun, Serve, Start, Store, Switch, ToPrecopy,
+    Act, Back, Counts, End, Load, Map, Notice, Phase, Push, PushUrgent, Read, Resume, Round, Send,
+    SendRun, Serve, Start, Store, Switch,
 };
-use super::calls::{Brief, Heard};
-use super::play::{AT_10, DONE_0, IDLE, STARTED, Steps, new_source, play};
+use super::calls::{Brief, HAS_ENDED, HAS_NOT_RUN, Heard};
+use super::play::{AT_10, DONE_0, IDLE, NOTICED, STARTED, Steps, new_source, play};
 use crate::frames::NOWHERE;
 use mig_base::Reply;
 use mig_base::effect::Effect;
-use mig_base::fault::BackFault;
 use mig_base::phase::SourcePhase;
 use mig_base::refusal::Refusal;
+use precopy::SourceFault;
 use std::test::Fail;
 use vcpu::NewFault;
 
 /// Each call in each phase that refuses it.
-static PHASES: Steps<59> = [
+static PHASES: Steps<67> = [
     (Map(0, 0x1000), Ok(Tries(AT_10))),
     (Store(0, 0x10000, 1), Ok(Tries(DONE_0))),
     (Phase, Ok(Stands(SourcePhase::Idle, false, 0))),
@@ -31,6 +31,8 @@ static PHASES: Steps<59> = [
     (PushUrgent(0, 0x10), Err(Refusal::Phase)),
     (Serve, Err(Refusal::Phase)),
     (End, Err(Refusal::Phase)),
+    (Notice, Err(Refusal::Phase)),
+    (Resume, Err(Refusal::Phase)),
     (Start, Ok(Sends(STARTED, Brief::Advise))),
     (Phase, Ok(Stands(SourcePhase::Precopy, false, 1))),
     (Start, Err(Refusal::Phase)),
@@ -38,9 +40,11 @@ static PHASES: Steps<59> = [
     (PushUrgent(1, 0x10), Err(Refusal::Phase)),
     (Serve, Err(Refusal::Phase)),
     (End, Err(Refusal::Phase)),
-    (Back(1, Heard::Done), Ok(NotTaken(BackFault::OutOfPlace))),
+    (Back(1, Heard::Done), Ok(NotTaken(SourceFault::OutOfPlace))),
     (Round, Ok(Told(Effect::RoundMade { round: 1, todo: 1 }))),
-    (Pause, Ok(Done)),
+    (Resume, Err(Refusal::Phase)),
+    (Notice, Ok(Told(NOTICED))),
+    (Notice, Err(Refusal::Phase)),
     (Phase, Ok(Stands(SourcePhase::Paused, false, 1))),
     (Start, Err(Refusal::Phase)),
     (Round, Err(Refusal::Phase)),
@@ -59,7 +63,7 @@ static PHASES: Steps<59> = [
             reply: Reply::Value(1),
         })),
     ),
-    (ToPrecopy, Ok(Done)),
+    (Back(1, HAS_NOT_RUN), Ok(Done)),
     (
         Switch,
         Ok(Hands(
@@ -77,7 +81,9 @@ static PHASES: Steps<59> = [
     (Read, Err(Refusal::Phase)),
     (Act, Err(Refusal::Phase)),
     (Switch, Err(Refusal::Phase)),
-    (Release, Ok(Done)),
+    (Resume, Err(Refusal::Phase)),
+    (Notice, Ok(Told(NOTICED))),
+    (Back(1, HAS_ENDED), Ok(Done)),
     (Phase, Ok(Stands(SourcePhase::Released, true, 1))),
     (Start, Err(Refusal::Phase)),
     (Round, Err(Refusal::Phase)),
@@ -90,7 +96,9 @@ static PHASES: Steps<59> = [
     (PushUrgent(1, 0x10), Err(Refusal::Phase)),
     (Serve, Err(Refusal::Phase)),
     (End, Err(Refusal::Phase)),
-    (Back(1, Heard::Done), Ok(NotTaken(BackFault::OutOfPlace))),
+    (Back(1, Heard::Done), Ok(NotTaken(SourceFault::OutOfPlace))),
+    (Notice, Err(Refusal::Phase)),
+    (Resume, Err(Refusal::Phase)),
     (Load(0, 0x10000), Err(Refusal::Phase)),
 ];
 
@@ -106,8 +114,8 @@ static LAST_EPOCH: Steps<3> = [
     (Phase, Ok(Stands(SourcePhase::Idle, false, u32::MAX))),
 ];
 
-/// The last number for an epoch is taken, and none is left for a round.
-static LAST_ROUND: Steps<4> = [
+/// The last number for an epoch is taken, and none is left for a round or for the next epoch.
+static LAST_ROUND: Steps<6> = [
     (
         Start,
         Ok(Sends(Effect::Started { epoch: u32::MAX }, Brief::Advise)),
@@ -115,6 +123,8 @@ static LAST_ROUND: Steps<4> = [
     (Round, Err(Refusal::CountUsed)),
     (Phase, Ok(Stands(SourcePhase::Precopy, false, u32::MAX))),
     (Counts, Ok(Counted([0, 0, 0, 0, 0, 0], 0))),
+    (Notice, Ok(Told(NOTICED))),
+    (Resume, Err(Refusal::CountUsed)),
 ];
 
 #[test]

@@ -6,6 +6,7 @@ use mig_base::cpu_state::CpuState;
 use mig_base::effect::Effect;
 use mig_base::phase::SourcePhase;
 use mig_base::refusal::Refusal;
+use mig_base::schedule::Side;
 use mig_base::{Command, Message, PageNo, Reply};
 use precopy::Source;
 use std::alloc::Global;
@@ -135,5 +136,7 @@ pub(super) const PAGE_10: Effect = Effect::SentPage { addr: 0x10000 };
 pub(super) const PAGE_11: Effect = Effect::SentPage { addr: 0x11000 };
 
 pub(super) const STARTED: Effect = Effect::Started { epoch: 1 };
+
+pub(super) const NOTICED: Effect = Effect::Noticed { side: Side::Source };
 
 pub(super) const IDLE: Two<Option<Command>> = (None, None);

@@ -1,19 +1,19 @@
 //! Rounds, the switch, and what is owed then.
 
-use super::calls::Answer::{Counted, Done, Gives, Hands, Is, NotTaken, Sends, Stands, Told, Tries};
+use super::calls::Answer::{Counted, Done, Hands, Is, NotTaken, Sends, Stands, Told, Tries};
 use super::calls::Call::{
-    Act, Back, Counts, Cpu, DontNeed, End, Load, Map, Package, Phase, Push, PushUrgent, Read,
-    Retry, Round, Send, Serve, Start, Store, Switch,
+    Act, Back, Counts, Cpu, DontNeed, End, Load, Map, Phase, Push, PushUrgent, Read, Retry, Round,
+    Send, Serve, Start, Store, Switch,
 };
-use super::calls::{Brief, Heard};
+use super::calls::{Brief, HAS_NOT_RUN, Heard};
 use super::play::{AT_10, DONE_0, IDLE, PAGE_10, PAGE_11, STARTED, Steps, play};
 use crate::frames::NOWHERE;
 use mig_base::cpu_state::CpuState;
 use mig_base::effect::Effect;
-use mig_base::fault::BackFault;
 use mig_base::phase::SourcePhase;
 use mig_base::refusal::Refusal;
 use mig_base::{Command, Message, Reply};
+use precopy::SourceFault;
 use std::test::Fail;
 
 const STORE_7: Command = Command::Store {
@@ -139,7 +139,7 @@ fn a_page_is_written_again_and_pushed(rt: HostRuntime) -> Result<(), Fail> {
 
 /// A page of zeros, a missing page, and a command that goes over with the switch. The urgent push is counted, and Done
 /// releases the source.
-static ZEROS: Steps<41> = [
+static ZEROS: Steps<40> = [
     (Map(0, 0x3000), Ok(Tries(AT_10))),
     (Store(0, 0x10000, 0), Ok(Tries(DONE_0))),
     (Store(0, 0x11000, 5), Ok(Tries(DONE_0))),
@@ -180,11 +180,7 @@ static ZEROS: Steps<41> = [
     (Cpu(1), Ok(Is(CpuState::Woken(STORE_7)))),
     (
         Back(1, Heard::Request(0x11)),
-        Ok(NotTaken(BackFault::OutOfPlace)),
-    ),
-    (
-        Package(0x11, 1),
-        Ok(Gives(Brief::Package(3, 0x11, 1, (None, Some(STORE_7))))),
+        Ok(NotTaken(SourceFault::OutOfPlace)),
     ),
     (
         Switch,
@@ -206,7 +202,7 @@ static ZEROS: Steps<41> = [
     (Serve, Err(Refusal::NothingThere)),
     (
         Back(2, Heard::Request(0x11)),
-        Ok(NotTaken(BackFault::StaleEpoch)),
+        Ok(NotTaken(SourceFault::StaleEpoch)),
     ),
     (Back(1, Heard::Request(0x11)), Ok(Done)),
     (Back(1, Heard::Request(0x12)), Ok(Done)),
@@ -220,11 +216,14 @@ static ZEROS: Steps<41> = [
         Ok(Sends(Effect::SentZero { addr: 0x12000 }, Brief::Zero(0x12))),
     ),
     (Push(1, 0x10), Err(Refusal::NotRemaining)),
-    (Back(1, Heard::Done), Ok(NotTaken(BackFault::OutOfPlace))),
+    (Back(1, Heard::Done), Ok(NotTaken(SourceFault::OutOfPlace))),
     (End, Ok(Sends(Effect::EndSent, Brief::End(1)))),
-    (Back(1, Heard::Recv), Ok(NotTaken(BackFault::OutOfPlace))),
-    (Back(1, Heard::Advise), Ok(NotTaken(BackFault::OutOfPlace))),
-    (Back(2, Heard::Done), Ok(NotTaken(BackFault::StaleEpoch))),
+    (Back(1, HAS_NOT_RUN), Ok(NotTaken(SourceFault::OutOfPlace))),
+    (
+        Back(1, Heard::Advise),
+        Ok(NotTaken(SourceFault::OutOfPlace)),
+    ),
+    (Back(2, Heard::Done), Ok(NotTaken(SourceFault::StaleEpoch))),
     (Serve, Ok(Told(Effect::Asked { addr: 0x12000 }))),
     (Back(1, Heard::Done), Ok(Done)),
     (Phase, Ok(Stands(SourcePhase::Released, true, 1))),

@@ -1,7 +1,8 @@
 //! Frames that a destination takes.
 
 ghost use Rattle.std.specs.Prelude.{◌≡◌, ◌≢◌, ◌⊎◌, ◌+◌, ◌*◌, ◌≤◌, ℕ, Some, None, Err, [], length, IfOk, IfErr, OnOk, OnErr};
-ghost use Rattle.mig_base.specs.declared.TheConstants.{HIGH_PAGE, PAGE_SIZE};
+ghost use Rattle.foundation.specs.declared.TheConstants.{PAGE_SIZE};
+ghost use Rattle.mig_base.specs.declared.TheConstants.{HIGH_PAGE};
 ghost use Rattle.mig_base.specs.declared.effect.Effect.{Effect};
 ghost use Rattle.mig_model.specs.Bounds.{IsFrame, IsPage};
 ghost use Rattle.mig_model.specs.Effects.{frame_effect};
@@ -14,7 +15,6 @@ ghost use Rattle.nodes.specs.declared.fault.FrameFault as faults;
 use crate::destination::DestinationNode;
 use crate::fault::{FrameFault, of_take};
 use crate::heads::{page_of, run_of};
-use crate::posting::{answers_to, push_all, push_some};
 use frame_decoder::read_text;
 use mig_base::effect::Effect;
 use mig_base::{PageNo, page_address};
@@ -125,13 +125,15 @@ impl DestinationNode {
         ensures err { OnErr result (self.new ≡ self.old) }
     {
         let effect = frame.effect();
-        let Ok(answers) = answers_to(self.alloc, &self.node, &mut self.wire, &frame) else {
+        let Ok(answers) = self.node.answers(&frame) else {
             return Err(FrameFault::NoMemory);
         };
+        if self.wire.reserve(answers.len()).is_err() {
+            return Err(FrameFault::NoMemory);
+        }
         match self.node.take(epoch, frame) {
-            Ok(answer) => {
-                push_all(&mut self.wire, self.node.epoch(), answers);
-                push_some(&mut self.wire, self.node.epoch(), answer);
+            Ok(()) => {
+                self.wire.push_all(self.node.epoch(), answers);
                 Ok(effect)
             }
             Err(fault) => Err(of_take(fault)),
@@ -151,7 +153,7 @@ impl DestinationNode {
         ensures err { OnErr result (self.new ≡ self.old) }
     {
         match self.node.take(epoch, Frame::Zero { page }) {
-            Ok(_none) => Ok(Effect::TookZero {
+            Ok(()) => Ok(Effect::TookZero {
                 addr: page_address(page),
             }),
             Err(fault) => Err(of_take(fault)),

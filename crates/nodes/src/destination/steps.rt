@@ -7,7 +7,6 @@ ghost use Rattle.nodes.specs.DestinationCalls.{answer};
 ghost use Rattle.nodes.specs.declared.steps.DestinationStep as steps;
 
 use crate::destination::DestinationNode;
-use crate::posting::push_some;
 use mig_base::Command;
 use mig_base::effect::Effect;
 use mig_base::refusal::Refusal;
@@ -61,7 +60,9 @@ impl DestinationNode {
             return Err(Refusal::NoMemory);
         }
         let (effect, request) = self.node.act()?;
-        push_some(&mut self.wire, self.node.epoch(), request);
+        if let Some(frame) = request {
+            self.wire.push(self.node.epoch(), frame);
+        }
         Ok(effect)
     }
 

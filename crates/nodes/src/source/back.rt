@@ -1,27 +1,19 @@
 //! Frames that come back to a source.
 
-ghost use Rattle.std.specs.Prelude.{◌≡◌, ◌⊎◌, false, Some, None, Err, IfOk, IfErr, OnOk, OnErr};
-ghost use Rattle.std.specs.Option.{option_map};
+ghost use Rattle.std.specs.Prelude.{◌≡◌, ◌⊎◌, Some, None, Err, IfOk, IfErr, OnOk, OnErr};
 ghost use Rattle.mig_model.specs.Bounds.{IsFrame};
-ghost use Rattle.mig_model.specs.Faults.{rebuild_fault};
 ghost use Rattle.mig_model.specs.NodeSteps.{acted};
-ghost use Rattle.mig_model.specs.Source.{is_released, rebuild_frames, source_rebuilt};
 ghost use Rattle.mig_model.specs.SourceSteps.{take};
-ghost use Rattle.mig_model.specs.Wire as machine;
 ghost use Rattle.page_stream.specs.Frames.{frame_of};
-ghost use Rattle.nodes.specs.Faults.{of_rebuild, returning_fault};
+ghost use Rattle.nodes.specs.Faults.{returning_fault};
 ghost use Rattle.nodes.specs.SourceCalls.{IsReturned, MayNotReturn, posts};
 ghost use Rattle.nodes.specs.declared.fault.FrameFault as faults;
 
-use crate::fault::{FrameFault, of_back, of_rebuild};
-use crate::posting::push_all;
+use crate::fault::{FrameFault, of_source};
 use crate::source::SourceNode;
 use frame_decoder::read_text;
-use mig_base::PageSet;
 use mig_base::effect::Effect;
-use mig_base::phase::Received;
 use page_stream::Frame;
-use recovery::rebuild;
 
 impl SourceNode {
     /// Takes a frame that came back, by the bytes of its text: a Request, a Recv or Done. To a Recv of a destination that has not run, a
@@ -41,7 +33,7 @@ impl SourceNode {
         self.take_frame(epoch, &frame)
     }
 
-    /// Takes a frame that came back.
+    /// Takes a frame that came back. Its answers wait.
     fn take_frame(&mut self, epoch: u32, frame: &Frame) -> Result<Effect, FrameFault>
         requires { IsFrame (frame_of frame.now) }
         ensures accepted { OnOk result (returning_fault self.old.node epoch (frame_of frame.now) ≡
@@ -53,41 +45,18 @@ impl SourceNode {
             (returning_fault self.old.node epoch (frame_of frame.now) ≡ Some fault)) }
         ensures err { OnErr result (self.new ≡ self.old) }
     {
-        if let Err(fault) = self.node.back(epoch, frame) {
-            return Err(of_back(fault));
-        }
-        if let Frame::Recv { state, owed } = frame {
-            self.resume_from(*state, owed)?;
-        }
-        Ok(frame.effect())
-    }
-
-    /// Resumes from a Recv that is in place. What is sent waits.
-    fn resume_from(&mut self, state: Received, owed: &PageSet) -> Result<(), FrameFault>
-        requires { is_released self.old.node.phase ≡ false }
-        ensures accepted { OnOk result (rebuild_fault self.old.node state owed.now ≡ None) }
-        ensures rebuilt { OnOk result (self.new ≡
-            record self.old {
-              node = source_rebuilt state owed.now self.old.node;
-              wire =
-                  machine.wire_with self.old.wire
-                  (source_rebuilt state owed.now self.old.node).epoch
-                  (rebuild_frames state self.old.node);
-            }) }
-        ensures refused { IfErr result (λ fault.
-            (fault ≡ faults.FrameFault.NoMemory) ⊎
-            (option_map of_rebuild (rebuild_fault self.old.node state owed.now) ≡ Some fault)) }
-        ensures err { OnErr result (self.new ≡ self.old) }
-    {
-        if self.wire.reserve(2).is_err() {
+        let Ok(answers) = self.node.answers(frame) else {
+            return Err(FrameFault::NoMemory);
+        };
+        if self.wire.reserve(answers.len()).is_err() {
             return Err(FrameFault::NoMemory);
         }
-        match rebuild(self.alloc, &mut self.node, state, owed) {
-            Ok(frames) => {
-                push_all(&mut self.wire, self.node.epoch(), frames);
-                Ok(())
+        match self.node.take(epoch, frame) {
+            Ok(()) => {
+                self.wire.push_all(self.node.epoch(), answers);
+                Ok(frame.effect())
             }
-            Err(fault) => Err(of_rebuild(fault)),
+            Err(fault) => Err(of_source(fault)),
         }
     }
 }

@@ -137,6 +137,6 @@ impl SourceNode {
             MayBeRefused steps.SourceStep.Notice self.old refusal) }
         ensures err { OnErr result (self.new ≡ self.old) }
     {
-        recovery::notice_source(&mut self.node)
+        self.node.notice()
     }
 }

@@ -1,16 +1,13 @@
 //! The steps of a source that send frames without page bytes. Each makes room for them first, so that no frame is lost.
 
 ghost use Rattle.std.specs.Prelude.{◌≡◌, IfOk, IfErr, OnErr};
-ghost use Rattle.mig_model.specs.NodeSteps.{IsRefusedFor, acted, checked};
-ghost use Rattle.mig_model.specs.SourceSteps as machine;
+ghost use Rattle.mig_model.specs.NodeSteps.{IsRefusedFor, acted};
 ghost use Rattle.nodes.specs.SourceCalls.{MayBeRefused, answer};
 ghost use Rattle.nodes.specs.declared.steps.SourceStep as steps;
 
 use crate::source::SourceNode;
 use mig_base::effect::Effect;
-use mig_base::phase::SourcePhase;
 use mig_base::refusal::Refusal;
-use page_stream::Frame;
 
 impl SourceNode {
     /// A migration begins: Advise waits.
@@ -74,26 +71,12 @@ impl SourceNode {
             MayBeRefused steps.SourceStep.Resume self.old refusal) }
         ensures err { OnErr result (self.new ≡ self.old) }
     {
-        self.check_resume()?;
         if self.wire.reserve(1).is_err() {
+            self.node.check_resume()?;
             return Err(Refusal::NoMemory);
         }
-        let epoch = self.node.epoch() + 1;
-        self.node.set_epoch(epoch);
-        self.wire.push(epoch, Frame::Resume);
-        Ok(Effect::Resumed { epoch })
-    }
-
-    /// Whether the next epoch can begin.
-    fn check_resume(&self) -> Result<(), Refusal>
-        ensures { result ≡ checked (machine.resume self.now.node) }
-    {
-        if self.node.phase() != SourcePhase::Paused {
-            return Err(Refusal::Phase);
-        }
-        if self.node.epoch() == u32::MAX {
-            return Err(Refusal::CountUsed);
-        }
-        Ok(())
+        let (effect, frame) = self.node.resume()?;
+        self.wire.push(self.node.epoch(), frame);
+        Ok(effect)
     }
 }

@@ -4,7 +4,7 @@
 //! pages.
 
 ghost use Rattle.std.specs.Prelude.{◌≡◌, ◌≢◌, ◌↔◌, ℕ, ◌+◌, ◌<◌, ◌≤◌, ◌⊎◌, true, nat_eq, if◌then◌else◌, Some, None, OnOk, OnErr, IfOk};
-ghost use Rattle.mig_base.specs.Ranges.{in_range};
+ghost use Rattle.foundation.specs.Ranges.{in_range};
 ghost use Rattle.mig_base.specs.declared.TheConstants.{HIGH_PAGE};
 ghost use Rattle.owed_pages.specs.Tables.{page_number, has_place, moved_number};
 ghost use Rattle.owed_pages.specs.Owed.{AreLinks, HasRoom};

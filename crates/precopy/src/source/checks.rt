@@ -6,7 +6,7 @@ ghost use Rattle.mig_base.specs.declared.TheConstants.{HIGH_PAGE};
 ghost use Rattle.mig_model.specs.Guest.{is_present};
 ghost use Rattle.mig_model.specs.Log.{least_of};
 ghost use Rattle.mig_model.specs.NodeSteps.{checked};
-ghost use Rattle.mig_model.specs.SourceSteps.{act, end, push, push_urgent, read, round, send, send_run, serve, start, switch};
+ghost use Rattle.mig_model.specs.SourceSteps.{act, end, pause, push, push_urgent, read, resume, round, send, send_run, serve, start, switch};
 
 use super::Source;
 use mig_base::phase::SourcePhase;
@@ -136,6 +136,29 @@ impl Source {
         }
         if least_page(&self.remaining).is_some() {
             return Err(Refusal::PagesLeft);
+        }
+        Ok(())
+    }
+
+    /// Whether the source can notice that the channel is broken: the refusal of [`Source::notice`].
+    pub fn check_notice(&self) -> Result<(), Refusal>
+        ensures { result ≡ checked (pause self.now) }
+    {
+        match self.phase {
+            SourcePhase::Precopy | SourcePhase::Stopped => Ok(()),
+            _ => Err(Refusal::Phase),
+        }
+    }
+
+    /// Whether the next epoch can begin: the refusal of [`Source::resume`].
+    pub fn check_resume(&self) -> Result<(), Refusal>
+        ensures { result ≡ checked (resume self.now) }
+    {
+        if self.phase != SourcePhase::Paused {
+            return Err(Refusal::Phase);
+        }
+        if self.epoch == u32::MAX {
+            return Err(Refusal::CountUsed);
         }
         Ok(())
     }

@@ -6,7 +6,7 @@ ghost use Rattle.mig_base.specs.declared.refusal.Refusal.{Refusal};
 ghost use Rattle.mig_base.specs.Acts.{act_effect};
 ghost use Rattle.mig_model.specs.Effects.{read_effect};
 ghost use Rattle.mig_model.specs.Guest.{Fault, Guest, fault_count};
-ghost use Rattle.mig_base.specs.declared.TheConstants.{PAGE_SIZE};
+ghost use Rattle.foundation.specs.declared.TheConstants.{PAGE_SIZE};
 ghost use Rattle.mig_model.specs.NodeSteps.{IsRefusedFor, acted, and_then};
 ghost use Rattle.mig_model.specs.Source.{is_handling, source_act, source_acted_by};
 ghost use Rattle.mig_model.specs.SourceSteps.{act, read};

@@ -44,7 +44,7 @@ impl Source {
         Ok((Effect::Started { epoch }, Frame::Advise))
     }
 
-    /// Begins the next round of pre-copy: registers the pages that were mapped since the last one, area by area; the round has to
+    /// Begins the next round of pre-copy: registers the pages that were mapped since the last one, area by area; the round must
     /// send the present pages that are not clean. Refused with `Phase` outside pre-copy, with `Changing` while an event is unread,
     /// with `CountUsed` if no number is left for the round, and last with `NoMemory`.
     pub fn round(&mut self) -> Result<Effect, Refusal>

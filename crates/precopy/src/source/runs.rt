@@ -1,7 +1,8 @@
 //! Pre-copy: runs of pages in one frame.
 
 ghost use Rattle.std.specs.Prelude.{◌≡◌, ◌+◌, ◌*◌, ◌<◌, ◌≤◌, [], ◌∷◌, Ok, IfOk, IfErr, OnErr};
-ghost use Rattle.mig_base.specs.declared.TheConstants.{HIGH_PAGE, MAX_RUN, PAGE_SIZE};
+ghost use Rattle.foundation.specs.declared.TheConstants.{PAGE_SIZE};
+ghost use Rattle.mig_base.specs.declared.TheConstants.{HIGH_PAGE, MAX_RUN};
 ghost use Rattle.mig_base.specs.declared.effect.Effect.{Effect};
 ghost use Rattle.mig_model.specs.Bounds.{ArePageBytes, IsFrame};
 ghost use Rattle.mig_model.specs.NodeSteps.{IsRefusedFor, and_then, sent};

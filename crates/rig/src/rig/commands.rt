@@ -9,7 +9,7 @@ ghost use Rattle.rig.specs.Sections.{IsReplyOf, IsReplyTo, IsToldOf, is_calling}
 
 use super::Rig;
 use crate::seat::Answer;
-use crate::section::{Tried, is_in_call, issue_in, retry_in};
+use crate::section::{Attempt, is_in_call, issue_in, retry_in};
 use mig_base::refusal::Refusal;
 use mig_base::{Command, Reply};
 use std::sync::{MutexGuard, Wait};
@@ -31,8 +31,8 @@ impl Rig {
     {
         let (world, tried) = self.issue(rt, cpu, command);
         match tried {
-            Ok(Tried::Replied(reply)) => (self.return_from_call(rt, world, cpu), Ok(reply)),
-            Ok(Tried::Asleep) => {
+            Ok(Attempt::Replied(reply)) => (self.return_from_call(rt, world, cpu), Ok(reply)),
+            Ok(Attempt::Asleep) => {
                 drop(world);
                 let (world, answer) = self.late_reply(rt, cpu);
                 match answer {
@@ -50,7 +50,7 @@ impl Rig {
         rt: &R,
         cpu: u8,
         command: Command,
-    ) -> (MutexGuard<'_, World>, Result<Tried, Refusal>)
+    ) -> (MutexGuard<'_, World>, Result<Attempt, Refusal>)
         ensures told { IfOk result.1 (λ tried. IsToldOf cpu command tried) }
         ensures waits { result.1 ≢ Err Refusal.Phase }
     {
@@ -84,10 +84,10 @@ impl Rig {
         for _ in rt.forever() {
             world.headline();
             match retry_in(&mut world, cpu) {
-                Ok((_, Tried::Asleep)) | Err(Refusal::Phase) => {
+                Ok((_, Attempt::Asleep)) | Err(Refusal::Phase) => {
                     world = self.changed.wait(rt, world)
                 }
-                Ok((command, Tried::Replied(reply))) => {
+                Ok((command, Attempt::Replied(reply))) => {
                     self.changed.notify_all();
                     let world = self.return_from_call(rt, world, cpu);
                     return (world, Ok(Answer { command, reply }));

@@ -11,7 +11,7 @@ use crate::quoted::{closed, next_string, unescape};
 use crate::stop::{Shown, Stop};
 use crate::text::{Class, front, rsplit_once, split_once};
 use crate::traced::Traced;
-use mig_base::NoMemory;
+use foundation::NoMemory;
 use std::alloc::{AllocError, Global};
 use std::fmt::Write;
 

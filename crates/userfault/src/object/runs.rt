@@ -2,7 +2,7 @@
 
 ghost use Rattle.std.specs.Prelude.{◌≡◌, ℕ, ◌+◌, ◌<◌, ◌≤◌, false, true, OnOk, IfOk};
 ghost use Rattle.std.specs.FinSet.{contains};
-ghost use Rattle.mig_base.specs.Ranges.{in_range};
+ghost use Rattle.foundation.specs.Ranges.{in_range};
 ghost use Rattle.mig_base.specs.declared.TheConstants.{HIGH_PAGE};
 ghost use Rattle.mig_base.specs.Userfault as machine;
 ghost use Rattle.userfault.specs.Modes.{mode_of, registered_set};

@@ -2,14 +2,16 @@
 
 ghost use Rattle.std.specs.Prelude.{◌≡◌};
 ghost use Rattle.mig_base.specs.declared.schedule.Step.{Step};
+ghost use Rattle.mig_model.specs.Destination.{is_dest_paused};
 ghost use Rattle.mig_model.specs.Migration.{answer};
 ghost use Rattle.mig_model.specs.NodeSteps.{checked};
 ghost use Rattle.mig_model.specs.Runs.{Happens};
+ghost use Rattle.mig_model.specs.Source.{is_under_way};
 ghost use Rattle.world.specs.Worlds.{IsWorld, world_of};
 
 use super::Parts;
 use mig_base::effect::Effect;
-use mig_base::phase::SourcePhase;
+use mig_base::phase::{DestPhase, SourcePhase};
 use mig_base::refusal::Refusal;
 use mig_base::schedule::{Side, Step};
 
@@ -36,8 +38,9 @@ impl Parts {
             return Err(self.refused(Step::Notice(side)));
         }
         match side {
-            Side::Source => recovery::notice_source(&mut self.source),
-            Side::Destination => recovery::notice_dest(&self.source, &mut self.destination),
+            Side::Source => self.source.notice(),
+            Side::Destination if !self.is_under_way() => Err(Refusal::Phase),
+            Side::Destination => self.destination.notice(),
         }
     }
 
@@ -46,10 +49,10 @@ impl Parts {
         requires { IsWorld (world_of self.old) }
         ensures { Happens (world_of self.old) Step.Resume result (world_of self.new) }
     {
-        if self.up || self.forward.reserve(1).is_err() {
+        if self.up || !self.is_dest_paused() || self.forward.reserve(1).is_err() {
             return Err(self.refused(Step::Resume));
         }
-        let (effect, frame) = recovery::resume(&mut self.source, &self.destination)?;
+        let (effect, frame) = self.source.resume()?;
         self.forward.push(self.source.epoch(), frame);
         self.up = true;
         Ok(effect)
@@ -59,10 +62,10 @@ impl Parts {
     pub(super) fn check_break(&self) -> Result<(), Refusal>
         ensures { result ≡ checked (answer (world_of self.now) Step.Break) }
     {
-        match self.source.phase() {
-            SourcePhase::Idle | SourcePhase::Released => Err(Refusal::Phase),
-            _ => self.while_up(Ok(())),
+        if !self.is_under_way() {
+            return Err(Refusal::Phase);
         }
+        self.while_up(Ok(()))
     }
 
     /// Whether a side can notice that the channel is broken.
@@ -70,10 +73,9 @@ impl Parts {
         ensures { result ≡ checked (answer (world_of self.now) (Step.Notice side)) }
     {
         match side {
-            Side::Source => self.while_down(recovery::check_notice_source(&self.source)),
-            Side::Destination => {
-                self.while_down(recovery::check_notice_dest(&self.source, &self.destination))
-            }
+            Side::Source => self.while_down(self.source.check_notice()),
+            Side::Destination if !self.is_under_way() => Err(Refusal::Phase),
+            Side::Destination => self.while_down(self.destination.check_notice()),
         }
     }
 
@@ -81,6 +83,26 @@ impl Parts {
     pub(super) fn check_resume(&self) -> Result<(), Refusal>
         ensures { result ≡ checked (answer (world_of self.now) Step.Resume) }
     {
-        self.while_down(recovery::check_resume(&self.source, &self.destination))
+        if !self.is_dest_paused() {
+            return Err(Refusal::Phase);
+        }
+        self.while_down(self.source.check_resume())
+    }
+
+    /// Whether a migration has started and is not complete.
+    fn is_under_way(&self) -> bool
+        ensures { result ≡ is_under_way self.now.source }
+    {
+        match self.source.phase() {
+            SourcePhase::Idle | SourcePhase::Released => false,
+            _ => true,
+        }
+    }
+
+    /// Whether the destination has noticed the break, and has not taken a Resume since.
+    fn is_dest_paused(&self) -> bool
+        ensures { result ≡ is_dest_paused self.now.destination.phase }
+    {
+        self.destination.phase() == DestPhase::Paused
     }
 }

@@ -29,7 +29,7 @@ impl Parts {
             return Ok(Effect::Moved { bytes: n });
         };
         // A frame that is refused stays the first, with the same number of its bytes arrived as before.
-        let effect = receive(self.alloc, &mut self.destination, &mut self.back, sent)?;
+        let effect = receive(&mut self.destination, &mut self.back, sent)?;
         self.forward.drop_first();
         Ok(effect)
     }
@@ -46,7 +46,7 @@ impl Parts {
         let Some(sent) = arrived else {
             return Ok(Effect::Moved { bytes: n });
         };
-        let Ok(effect) = receive_back(self.alloc, &mut self.source, &mut self.forward, &sent) else {
+        let Ok(effect) = receive_back(&mut self.source, &mut self.forward, &sent) else {
             return Err(Refusal::NoMemory);
         };
         self.back.drop_first();

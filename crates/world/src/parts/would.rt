@@ -117,7 +117,7 @@ impl Parts {
         Ok(())
     }
 
-    /// Whether bytes can arrive at the destination. A frame that they complete has to wait only if it is End.
+    /// Whether bytes can arrive at the destination. A frame that they complete must wait only if it is End.
     fn check_deliver(&self, n: u64) -> Result<(), Refusal>
         requires { IsWorld (world_of self.now) }
         ensures { result ≡ checked (answer (world_of self.now) (Step.Deliver n)) }

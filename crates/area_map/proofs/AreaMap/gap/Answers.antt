@@ -1,6 +1,6 @@
 use Rattle.std.proofs.Common.{sym, arith, ap, ◌∙◌}
-use Rattle.mig_base.proofs.RangeLemmas.{free_place-zero}
-use Rattle.mig_base.specs.Ranges.{free_place}
+use Rattle.mig_base.proofs.FreePlaceLemmas.{free_place-zero}
+use Rattle.mig_base.specs.FreePlaces.{free_place}
 use Rattle.std.specs.FinMap.{contains_key}
 use Rattle.std.proofs.Common.{◌/◌}
 use Rattle.area_map.proofs.GapLemmas.{gap_answer, no_gap_answer}

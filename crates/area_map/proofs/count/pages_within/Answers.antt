@@ -3,7 +3,7 @@ use Rattle.std.proofs.lemmas.List.{take_all}
 use Rattle.area_map.proofs.AreaLemmas.{runs_at}
 use Rattle.area_map.proofs.MappedLemmas.{mapped_of, mapped_of-none, mapped_of-more}
 use Rattle.area_map.proofs.count.pages_within.Goals as goal
-use Rattle.mig_base.proofs.RangeLemmas.{count_below-few}
+use Rattle.foundation.proofs.RangeLemmas.{count_below-few}
 
 pub loop-area-init : goal.loop-area-init
 loop-area-init c = mapped_of-none c.args.first c.args.count

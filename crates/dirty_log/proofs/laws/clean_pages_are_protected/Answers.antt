@@ -10,17 +10,23 @@ use Rattle.dirty_log.proofs.laws.clean_pages_are_protected.Goals as goal
 
 pub returns : goal.returns
 returns c = record {
-  present = λ log space page sound kept h u. sound.present page (kept page h u);
-  registered = λ log space page sound kept h u. sound.watched page (kept page h u);
+  watched = λ log space sound kept. record {
+    present = λ page h u. sound.present page (kept page h u);
+    registered = λ page h u. sound.watched page (kept page h u);
+  };
   new = λ space. none_clean empty_log space refl;
   forget = λ log space. none_clean (forgotten log) space refl;
-  register_new = registered_kept;
-  begin_round = λ log space todo kept. kept;
-  drop_held = λ log space kept. kept;
-  send = λ log space page sound fits kept. subst (λ l. AreProtected l (protected_in space page 1 true)) (one_sent log page) (sent_kept log space page 1 sound fits kept);
-  send_run = sent_kept;
-  read = read_kept;
+  kept = λ log space kept. record {
+    begin_round = λ todo. kept;
+    drop_held = kept;
+    read = λ cpus noted next. read_kept log (record { space = space; cpus = cpus }) noted next kept;
+    access = λ cpu command. access_kept (access_of space command) log space cpu command kept;
+  };
+  kept_in_order = λ log space sound kept. record {
+    register_new = registered_kept log space sound kept;
+    send = λ page fits. subst (λ l. AreProtected l (protected_in space page 1 true)) (one_sent log page) (sent_kept log space page 1 sound fits kept);
+    send_run = λ first count fits. sent_kept log space first count sound fits kept;
+    call = λ cpu command is. call_kept log space cpu command is sound kept;
+  };
   act = λ node fault. acted_kept (source_act node fault) node fault.page;
-  access = λ log space cpu command. access_kept (access_of space command) log space cpu command;
-  call = call_kept;
 }

@@ -1,6 +1,6 @@
 use Rattle.std.proofs.Common.{◌∙◌, ◌&&◌, ap, not, sym}
 use Rattle.std.specs.FinSet.{contains}
-use Rattle.mig_base.specs.Ranges.{in_range}
+use Rattle.foundation.specs.Ranges.{in_range}
 use Rattle.mig_base.proofs.SetLemmas.{same_members, member_without}
 use Rattle.mig_base.proofs.Taken.{all_left, all_taken, none_taken, part_run, taken_run}
 use Rattle.dirty_log.proofs.PageLemmas.{member_kept, more_out, none_out_yet}

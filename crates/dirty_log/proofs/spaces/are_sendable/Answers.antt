@@ -1,5 +1,5 @@
 use Rattle.std.proofs.Common.{◌≡◌, ◌∙◌, ◌+◌, ◌-◌, not, ap, sym, arith}
-use Rattle.mig_base.proofs.RangeLemmas.{none_below-from, none_below-not}
+use Rattle.foundation.proofs.RangeLemmas.{none_below-from, none_below-not}
 use Rattle.dirty_log.specs.Spaces.{is_sendable}
 use Rattle.dirty_log.proofs.spaces.are_sendable.Goals as goal
 

@@ -1,6 +1,6 @@
 use Rattle.std.proofs.Common.{◌∙◌, ap, not, sym, arith}
 use Rattle.std.specs.FinSet.{contains}
-use Rattle.mig_base.proofs.RangeLemmas.{in_range-true, in_range_bounds}
+use Rattle.foundation.proofs.RangeLemmas.{in_range-true, in_range_bounds}
 use Rattle.mig_base.proofs.Taken.{all_left, all_taken, each_more, none_taken, part_run, run_is, taken_run}
 use Rattle.std.proofs.lemmas.Bool.{false≢true}
 use Rattle.fault_handler.proofs.TornLemmas.{has_none_from, has_some}

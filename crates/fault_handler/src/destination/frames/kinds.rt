@@ -28,7 +28,7 @@ impl Destination {
         self.urgent_taken = 0;
     }
 
-    /// The copy of a page has come. Before the run it is kept; from then on it waits to be installed.
+    /// The copy of a page has arrived. Before the run it is kept; from then on it waits to be installed.
     pub(super) fn page_came(&mut self, page: PageNo, bytes: PageBytes) -> Result<(), NoMemory>
         requires { page < HIGH_PAGE }
         ensures ok { OnOk result (self.new ≡
@@ -76,7 +76,7 @@ impl Destination {
         Ok(())
     }
 
-    /// Copies of neighbouring pages have come and are kept; a Run comes only before the run.
+    /// Copies of neighbouring pages have arrived and are kept; a Run comes only before the run.
     pub(super) fn run_came(&mut self, first: PageNo, pages: Pages) -> Result<(), NoMemory>
         requires { first + length pages ≤ HIGH_PAGE }
         ensures ok { OnOk result (self.new ≡
@@ -99,7 +99,7 @@ impl Destination {
         self.phase = DestPhase::Discarding;
     }
 
-    /// A Package has come: the destination runs, in a space of these areas with the kept pages, and is owed these pages.
+    /// A Package has arrived: the destination runs, in a space of these areas with the kept pages, and is owed these pages.
     pub(super) fn run(
         &mut self,
         areas: &AreaMap,

@@ -49,7 +49,7 @@ impl Destination {
         }
     }
 
-    /// Why a frame has to wait, if so.
+    /// Why a frame must wait, if so.
     fn wait_fault(&self, frame: &Frame) -> Option<TakeFault>
         ensures { result ≡ machine.wait_fault self.now (frame_of frame.now) }
     {

@@ -1,7 +1,7 @@
 use Rattle.std.proofs.Common.{sym, arith}
 use Rattle.std.specs.FinSet.{contains}
 use Rattle.mig_base.specs.declared.TheConstants.{HIGH_PAGE}
-use Rattle.mig_base.proofs.RangeLemmas.{least_below-is, least_below-none}
+use Rattle.foundation.proofs.RangeLemmas.{least_below-is, least_below-none}
 use Rattle.finish.proofs.PushedLemmas.{none_before}
 use Rattle.finish.proofs.next_step.least_page.Goals as goal
 

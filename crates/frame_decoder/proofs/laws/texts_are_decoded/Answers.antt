@@ -5,4 +5,4 @@ pub returns-clause-all : goal.returns-clause-all
 returns-clause-all c = texts_decoded
 
 pub returns-clause-part : goal.returns-clause-part
-returns-clause-part c = part_decoded
+returns-clause-part c = λ version frames front each part. part_decoded version frames part.sent front part.rest each part.fits part.whole part.short

@@ -1,6 +1,6 @@
 use Rattle.std.proofs.Common.{arith, Result, Ok, Err, Option, List, ℕ, ◌≡◌, subst, sym}
 use Rattle.std.specs.Prelude.{IfOk}
-use Rattle.mig_base.specs.declared.NoMemory.{NoMemory}
+use Rattle.foundation.specs.declared.NoMemory.{NoMemory}
 use Rattle.frame_decoder.specs.declared.stream.Next.{Next}
 use Rattle.frame_decoder.specs.declared.version.Version.{Version}
 use Rattle.frame_decoder.specs.Reading.{front_of, next_at}

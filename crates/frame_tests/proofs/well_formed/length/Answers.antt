@@ -1,5 +1,5 @@
 use Rattle.std.proofs.Common.{arith}
-use Rattle.frame_texts.proofs.LengthBounds.{text_short}
+use Rattle.page_stream.proofs.LengthBounds.{text_short}
 use Rattle.page_stream.specs.Frames.{frame_of}
 use Rattle.frame_tests.proofs.well_formed.length.Goals as goal
 

@@ -1,8 +1,8 @@
 use Rattle.std.proofs.Common.{◌∙◌, sym, arith}
 use Rattle.std.specs.Prelude.{not, ◌&&◌}
 use borrow.Author.Count.{below_more}
-use Rattle.mig_base.specs.Bits.{is_one}
-use Rattle.mig_base.proofs.RangeLemmas.{none_below-from, none_below-not}
+use Rattle.foundation.specs.Bits.{is_one}
+use Rattle.foundation.proofs.RangeLemmas.{none_below-from, none_below-not}
 use Rattle.kernel_rules.proofs.arguments.is_within.Goals as goal
 
 pub returns-then-lacks : goal.returns-then-lacks

@@ -1,6 +1,6 @@
 use Rattle.std.proofs.Common.{◌≡◌, ℕ, ◌<◌, false}
 use Rattle.std.specs.Prelude.{not, ◌&&◌}
-use Rattle.mig_base.specs.Bits.{is_one}
+use Rattle.foundation.specs.Bits.{is_one}
 use Rattle.kernel_rules.proofs.arguments.is_within.Given as goal
 
 abbrev pub invariant-loop-i : goal.invariant-loop-i

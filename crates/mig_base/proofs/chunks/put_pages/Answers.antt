@@ -1,6 +1,6 @@
 use Rattle.std.proofs.Common.{◌≡◌, ◌≤◌, ◌<◌, ◌+◌, ◌-◌, ◌*◌, ◌∙◌, ◌/◌, ◌||◌, ap, arith, min, true, None, get_or, length}
 use Rattle.std.proofs.Math.ListN.{length-set}
-use Rattle.mig_base.specs.Ranges.{in_range}
+use Rattle.foundation.specs.Ranges.{in_range}
 use Rattle.mig_base.specs.PageSets.{in_chunk, is_chunk}
 use Rattle.mig_base.proofs.PageSetLemmas.{chunk_inside, chunk_met, chunks_kept, put_more}
 use Rattle.mig_base.proofs.PlaceLemmas.{read_place}

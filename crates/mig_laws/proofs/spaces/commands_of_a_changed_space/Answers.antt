@@ -9,14 +9,10 @@ returns-clause-reply c f host command it = host_replied f it.map host it.whole c
 pub returns-clause-host : goal.returns-clause-host
 returns-clause-host c f host command it = host_after-under f it.map host it.whole command
 
-pub returns-clause-access : goal.returns-clause-access
-returns-clause-access c f space command it = access_of-under f it.map space it.whole command
-
-pub returns-clause-accessed : goal.returns-clause-accessed
-returns-clause-accessed c f space cpu command it = accessed-under f it.map space cpu it.whole command
-
-pub returns-clause-called : goal.returns-clause-called
-returns-clause-called c f space cpu command it = called-under f it.map space cpu it.whole command
-
-pub returns-clause-messages : goal.returns-clause-messages
-returns-clause-messages c f space command it = queued_by-under f it.map space it.whole command
+pub returns-clause-space : goal.returns-clause-space
+returns-clause-space c f space it = record {
+  access = λ command. access_of-under f it.map space it.whole command;
+  accessed = λ cpu command. accessed-under f it.map space cpu it.whole command;
+  called = λ cpu command. called-under f it.map space cpu it.whole command;
+  messages = λ command. queued_by-under f it.map space it.whole command;
+}

@@ -1,5 +1,5 @@
 use Rattle.std.proofs.Common.{sym, ◌∙◌, arith}
-use Rattle.frame_texts.proofs.LengthBounds.{text_short}
+use Rattle.page_stream.proofs.LengthBounds.{text_short}
 use Rattle.page_stream.specs.Frames.{frame_of}
 use Rattle.page_stream.proofs.FrameTexts.{encoded, length-body_text}
 use Rattle.page_stream.proofs.writing.encode_into.Goals as goal

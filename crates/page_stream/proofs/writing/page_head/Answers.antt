@@ -1,7 +1,7 @@
 use Rattle.std.proofs.Common.{ℕ, ◌++◌, sym, ap}
 use Rattle.std.specs.Int.{w32, to_be_bytes}
-use Rattle.frame_texts.specs.Texts.{header_text, text}
-use Rattle.frame_texts.specs.Texts.Version.{Two}
+use Rattle.page_stream.specs.Texts.{header_text, text}
+use Rattle.page_stream.specs.Texts.Version.{Two}
 use Rattle.page_stream.proofs.FrameTexts.{page_long}
 use Rattle.page_stream.proofs.writing.page_head.Goals as goal
 

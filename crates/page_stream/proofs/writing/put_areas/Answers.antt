@@ -1,7 +1,7 @@
 use Rattle.std.proofs.Common.{length}
 use Rattle.std.specs.Int.{w32, to_be_bytes}
 use Rattle.mig_base.specs.declared.Prot.TheVariants.{NoAccess}
-use Rattle.frame_texts.specs.Texts.{area_text}
+use Rattle.page_stream.specs.Texts.{area_text}
 use Rattle.page_stream.proofs.Puts.{puts_more, puts_room, puts_all}
 use Rattle.page_stream.proofs.writing.put_areas.Goals as goal
 

@@ -1,7 +1,7 @@
 use Rattle.std.proofs.Common.{length, take, ◌++◌}
 use Rattle.std.specs.List.{flat_map}
 use Rattle.std.specs.Int.{w32, to_be_bytes}
-use Rattle.frame_texts.specs.Texts.{area_text}
+use Rattle.page_stream.specs.Texts.{area_text}
 use Rattle.page_stream.specs.Writing.{Puts}
 use Rattle.page_stream.proofs.writing.put_areas.Given as goal
 

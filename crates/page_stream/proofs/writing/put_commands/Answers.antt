@@ -1,5 +1,5 @@
 use Rattle.std.proofs.Common.{length, ◌∷◌, [], None}
-use Rattle.frame_texts.specs.Texts.{command_text}
+use Rattle.page_stream.specs.Texts.{command_text}
 use Rattle.page_stream.proofs.Puts.{puts_more, puts_room, puts_all}
 use Rattle.page_stream.proofs.writing.put_commands.Goals as goal
 

@@ -1,6 +1,6 @@
 use Rattle.std.proofs.Common.{length, take, ◌++◌, ◌∷◌, []}
 use Rattle.std.specs.List.{flat_map}
-use Rattle.frame_texts.specs.Texts.{command_text}
+use Rattle.page_stream.specs.Texts.{command_text}
 use Rattle.page_stream.specs.Writing.{Puts}
 use Rattle.page_stream.proofs.writing.put_commands.Given as goal
 

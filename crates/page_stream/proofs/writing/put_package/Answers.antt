@@ -1,6 +1,6 @@
 use Rattle.std.proofs.Common.{◌+◌, ◌≤◌, List, length, sym, subst, arith, vec_len, vec_capacity, ◌++◌}
 use Rattle.mig_base.specs.declared.Area.{Area}
-use Rattle.frame_texts.specs.Texts.{areas_of, areas_text, commands_text, runs_of, runs_text}
+use Rattle.page_stream.specs.Texts.{areas_of, areas_text, commands_text, runs_of, runs_text}
 use Rattle.page_stream.specs.Writing.{Puts}
 use Rattle.page_stream.proofs.AreaTexts.{areas_are, few_areas}
 use Rattle.page_stream.proofs.FrameTexts.{room_of_first, room_of_second, room_of_third}

@@ -2,8 +2,8 @@ use Rattle.std.proofs.Common.{ℕ, List, ◌++◌, length, sym, ap, ◌∙◌}
 use Rattle.std.specs.List.{flat_map}
 use Rattle.std.specs.Int.{w32, to_be_bytes}
 use Rattle.mig_model.specs.Wire as machine
-use Rattle.frame_texts.specs.Texts.{body_text, header_text, text}
-use Rattle.frame_texts.specs.Texts.Version.{Two}
+use Rattle.page_stream.specs.Texts.{body_text, header_text, text}
+use Rattle.page_stream.specs.Texts.Version.{Two}
 use Rattle.page_stream.proofs.FrameTexts.{run_long}
 use Rattle.page_stream.proofs.writing.run_head.Goals as goal
 

@@ -1,6 +1,6 @@
 use Rattle.std.proofs.Common.{◌≡◌, ◌≤◌, ◌+◌, ◌-◌, ◌*◌, ◌∙◌, cond, ap, arith, min, length}
 use Rattle.std.proofs.Math.ListN.{length-set}
-use Rattle.mig_base.specs.Ranges.{in_range}
+use Rattle.foundation.specs.Ranges.{in_range}
 use Rattle.mig_base.proofs.PlaceLemmas.{read_place, places_stay}
 use Rattle.page_table.specs.Leaves.{cell_in, cell_at, has_place, is_place, no_cell}
 use Rattle.page_table.proofs.TableLemmas.{cleared_more, cleared_past}

@@ -1,6 +1,6 @@
 use Rattle.std.proofs.Common.{◌≡◌, ◌≤◌, ◌+◌, ◌-◌, ◌*◌, ◌∙◌, ap, arith, min, length}
 use Rattle.std.proofs.Math.ListN.{length-set}
-use Rattle.mig_base.specs.Ranges.{in_range}
+use Rattle.foundation.specs.Ranges.{in_range}
 use Rattle.mig_base.proofs.PlaceLemmas.{read_place}
 use Rattle.page_table.specs.Leaves.{cell_in, cell_at, opened_cell}
 use Rattle.page_table.proofs.OpenedLemmas.{opened_more, opened_past}

@@ -15,6 +15,8 @@ returns c = record {
   push_urgent = λ world ticket. refl;
   serve = λ world. refl;
   end = λ world. refl;
+  notice = λ world. refl;
+  resume = λ world paused. rw paused refl;
   issue = issued_at;
   retry = retried_at;
 }

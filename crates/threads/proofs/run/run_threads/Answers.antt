@@ -8,7 +8,7 @@ pub returns-in_err-write_out-clause-fault : goal.returns-in_err-write_out-clause
 returns-in_err-write_out-clause-fault g c =
     let p = err_from_is_err_and c.from_residual-in_err-write_out.result c.from_residual-in_err-write_out.ensures.1 in
     let run = c.in_ok-run.run' in
-    let whole : IsWholeRun c.args.cpus c.args.calls run.seats.items run.world run.fault = record {
+    let whole : IsWholeRun c.args.scenario.cpus c.args.scenario.calls run.seats.items run.world run.fault = record {
       all = c.in_ok-run.ensures.all;
       each = c.in_ok-run.ensures.each;
       flat = c.in_ok-run.ensures.flat;

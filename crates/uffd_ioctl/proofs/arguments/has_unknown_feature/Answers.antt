@@ -1,7 +1,7 @@
 use Rattle.std.proofs.Common.{◌∙◌, sym, ap, not, arith, ◌&&◌, below_more}
 use Rattle.std.proofs.lemmas.Bool.{and_left}
-use Rattle.mig_base.specs.Bits.{is_one}
-use Rattle.mig_base.proofs.RangeLemmas.{none_below-from, none_below-not}
+use Rattle.foundation.specs.Bits.{is_one}
+use Rattle.foundation.proofs.RangeLemmas.{none_below-from, none_below-not}
 use Rattle.mig_model.specs.Ioctls.{is_feature}
 use Rattle.uffd_ioctl.proofs.RegisterLemmas.{is_unknown, is_known}
 use Rattle.uffd_ioctl.proofs.arguments.has_unknown_feature.Goals as goal

@@ -1,5 +1,5 @@
 use Rattle.std.proofs.Common.{◌≡◌, ℕ, ◌<◌, ◌&&◌, false, not}
-use Rattle.mig_base.specs.Bits.{is_one}
+use Rattle.foundation.specs.Bits.{is_one}
 use Rattle.mig_model.specs.Ioctls.{is_feature}
 use Rattle.uffd_ioctl.proofs.arguments.has_unknown_feature.Given as goal
 

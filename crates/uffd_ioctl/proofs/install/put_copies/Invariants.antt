@@ -1,6 +1,6 @@
 use Rattle.std.proofs.Common.{ℕ, ◌-◌, ◌≡◌, ◌&&◌, ◌||◌}
 use Rattle.std.specs.FinSet as set
-use Rattle.mig_base.specs.Ranges.{in_range}
+use Rattle.foundation.specs.Ranges.{in_range}
 use Rattle.mig_model.specs.Ioctls.{handed}
 use Rattle.uffd_ioctl.proofs.InstallLemmas.{ArePut}
 use Rattle.uffd_ioctl.proofs.install.put_copies.Given as goal

@@ -1,6 +1,6 @@
 use Rattle.std.proofs.Common.{◌∙◌, ap, sym, arith}
 use Rattle.mig_base.specs.Flat.{mremap_target}
-use Rattle.mig_base.specs.Ranges.{rounded}
+use Rattle.foundation.specs.Ranges.{rounded}
 use Rattle.mig_model.specs.Host.{memory}
 use Rattle.uffd_ioctl.specs.MapCalls.{host_of}
 use Rattle.uffd_ioctl.proofs.MapCallLemmas.{remap_answer}

@@ -1,6 +1,6 @@
 use Rattle.std.proofs.Common.{◌∙◌, ◌-◌, ◌&&◌, not, ap, refl, arith}
 use Rattle.std.specs.FinSet.{contains}
-use Rattle.mig_base.specs.Ranges.{in_range}
+use Rattle.foundation.specs.Ranges.{in_range}
 use Rattle.mig_base.proofs.SetLemmas.{member_without}
 use Rattle.userfault.proofs.ModeLemmas.{removed_none, removed_more, removed_all}
 use Rattle.uffd_ioctl.proofs.RegisterLemmas.{unless_watched}

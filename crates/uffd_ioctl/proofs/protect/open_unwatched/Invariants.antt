@@ -1,6 +1,6 @@
 use Rattle.std.proofs.Common.{◌≡◌, ◌≤◌, ◌-◌, ◌&&◌, not, ℕ}
 use Rattle.std.specs.FinSet as set
-use Rattle.mig_base.specs.Ranges.{in_range}
+use Rattle.foundation.specs.Ranges.{in_range}
 use Rattle.uffd_ioctl.proofs.protect.open_unwatched.Given as goal
 
 abbrev pub invariant-loop-at : goal.invariant-loop-at

@@ -1,7 +1,7 @@
 use Rattle.std.proofs.Common.{◌∙◌, ap}
 use Rattle.std.specs.FinMap as map
 use Rattle.std.specs.FinSet as set
-use Rattle.mig_base.specs.Ranges.{in_range}
+use Rattle.foundation.specs.Ranges.{in_range}
 use Rattle.mig_base.proofs.SetLemmas.{member_without}
 use Rattle.uffd_ioctl.proofs.RegisterLemmas.{present_set, all_cleared}
 use Rattle.uffd_ioctl.proofs.protect.set_protection.Goals as goal

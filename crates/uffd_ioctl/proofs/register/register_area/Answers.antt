@@ -1,6 +1,6 @@
 use Rattle.std.proofs.Common.{◌∙◌, ◌-◌, ◌&&◌}
 use Rattle.std.proofs.lemmas.Result.{IfOk-weaker}
-use Rattle.mig_base.specs.Ranges.{in_range}
+use Rattle.foundation.specs.Ranges.{in_range}
 use Rattle.userfault.specs.Modes.{mode_of}
 use Rattle.uffd_ioctl.proofs.RegisterLemmas.{in_both, apart, same_where, nothing_where}
 use Rattle.uffd_ioctl.proofs.register.register_area.Goals as goal

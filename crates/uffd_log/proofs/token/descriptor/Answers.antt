@@ -1,6 +1,7 @@
 use Rattle.std.proofs.Common.{arith}
-use Rattle.uffd_log.proofs.Words.{all_others, none_of}
-use Rattle.uffd_log.proofs.OneToken.{no_descriptor, parts_at, one_number}
+use Rattle.words.proofs.Bytes.{all_others, none_of}
+use Rattle.uffd_log.proofs.OneToken.{no_descriptor, parts_at}
+use Rattle.words.proofs.Numbers.{one_number}
 use Rattle.uffd_log.proofs.token.descriptor.Goals as goal
 
 pub returns-in_err-at-clause-none : goal.returns-in_err-at-clause-none

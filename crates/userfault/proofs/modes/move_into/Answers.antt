@@ -1,6 +1,6 @@
 use Rattle.std.proofs.Common.{◌∙◌, ◌+◌, ◌-◌, ◌&&◌, not, ap, sym, arith}
 use Rattle.std.specs.FinSet.{contains}
-use Rattle.mig_base.specs.Ranges.{in_range}
+use Rattle.foundation.specs.Ranges.{in_range}
 use Rattle.mig_base.proofs.SetLemmas.{member_without}
 use Rattle.userfault.proofs.ModeLemmas.{moved_none, moved_more, source_stays, is_moved_set}
 use Rattle.userfault.proofs.modes.move_into.Goals as goal

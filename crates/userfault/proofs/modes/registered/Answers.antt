@@ -1,6 +1,6 @@
 use Rattle.std.proofs.Common.{ℕ, ◌∙◌, ◌&&◌, ◌||◌, not, ap}
 use Rattle.std.specs.FinSet.{contains}
-use Rattle.mig_base.specs.Ranges.{in_range}
+use Rattle.foundation.specs.Ranges.{in_range}
 use Rattle.userfault.proofs.ModeLemmas.{is_registered_set, asked_put, other_kept, all_kept}
 use Rattle.userfault.proofs.modes.registered.Goals as goal
 use Rattle.userfault.proofs.modes.registered.Goals.{then-asked+in_ok-insert_range, else-asked+then-other_asked, else-asked+else-other_asked}

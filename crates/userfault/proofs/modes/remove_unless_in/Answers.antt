@@ -1,6 +1,6 @@
 use Rattle.std.proofs.Common.{◌∙◌, ◌-◌, ◌&&◌, not, ap, arith}
 use Rattle.std.specs.FinSet.{contains}
-use Rattle.mig_base.specs.Ranges.{in_range}
+use Rattle.foundation.specs.Ranges.{in_range}
 use Rattle.mig_base.proofs.SetLemmas.{member_without}
 use Rattle.userfault.proofs.ModeLemmas.{removed_none, removed_more, removed_all}
 use Rattle.userfault.proofs.modes.remove_unless_in.Goals as goal

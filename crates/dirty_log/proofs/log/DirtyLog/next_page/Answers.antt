@@ -1,7 +1,7 @@
 use Rattle.std.proofs.Common.{ap, sym, arith}
 use Rattle.std.specs.FinSet.{contains}
 use Rattle.mig_base.specs.declared.TheConstants.{HIGH_PAGE}
-use Rattle.mig_base.proofs.RangeLemmas.{least_below-is, least_below-none}
+use Rattle.foundation.proofs.RangeLemmas.{least_below-is, least_below-none}
 use Rattle.dirty_log.proofs.RoundLemmas.{none_before}
 use Rattle.dirty_log.proofs.log.DirtyLog.next_page.Goals as goal
 

@@ -12,11 +12,11 @@ returns-in_err-write_out-clause-fault g c =
 pub returns-clause-ok : goal.returns-clause-ok
 returns-clause-ok g c =
     on_ok_weaker c.end_last-ended.result
-    (λ ends start read before at. finishes_written g.S.LineSink.takes start c.end_last-ended.new.sink read c.end_last-ended.new.self.output.items before _ _ (ends start read before _ at) (rw c.deref.ensures.value at c.in_ok-write_out.ensures.ok))
+    (λ ends start read before at. finishes_written g.S.LineSink.takes start c.end_last-ended.new.sink read c.end_last-ended.new.self.output.items before _ _ (ends _ start read before at) (rw c.deref.ensures.value at c.in_ok-write_out.ensures.ok))
     c.end_last-ended.ensures.ok
 
 pub returns-clause-fault : goal.returns-clause-fault
 returns-clause-fault g c =
     IfErr-weaker c.end_last-ended.result _ _
-    (λ fault breaks start read before at. stops_written g.S.LineSink.takes g.S.LineSink.refuses start read c.end_last-ended.new.self.output.items (Some []) before _ _ fault (breaks start read before _ at) (rw c.deref.ensures.value at c.in_ok-write_out.ensures.ok))
+    (λ fault breaks start read before at. stops_written g.S.LineSink.takes g.S.LineSink.refuses start read c.end_last-ended.new.self.output.items (Some []) before _ _ fault (breaks _ start read before at) (rw c.deref.ensures.value at c.in_ok-write_out.ensures.ok))
     c.end_last-ended.ensures.fault

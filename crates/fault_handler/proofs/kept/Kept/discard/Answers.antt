@@ -1,6 +1,6 @@
 use Rattle.std.proofs.Common.{◌∙◌, ap, cond, None}
 use Rattle.std.specs.FinMap.{get}
-use Rattle.mig_base.specs.Ranges.{in_range}
+use Rattle.foundation.specs.Ranges.{in_range}
 use Rattle.mig_base.proofs.PageLemmas.{get-remove_range}
 use Rattle.mig_base.proofs.Taken.{all_left, all_taken, none_taken, part_run, taken, taken_run}
 use Rattle.fault_handler.proofs.KeptLemmas.{all_gone, more_gone, none_gone}

@@ -1,7 +1,7 @@
 use Rattle.std.proofs.Common.{◌≡◌, ◌∙◌, ◌-◌, ◌||◌, ap, arith, cond, get_or, length, Some, []}
 use Rattle.std.specs.FinMap.{get}
 use Rattle.std.specs.FinSet.{contains}
-use Rattle.mig_base.specs.Ranges.{in_range}
+use Rattle.foundation.specs.Ranges.{in_range}
 use Rattle.fault_handler.proofs.KeptLemmas.{kept_run, run_kept}
 use Rattle.fault_handler.proofs.kept.Kept.keep_run.Goals as goal
 

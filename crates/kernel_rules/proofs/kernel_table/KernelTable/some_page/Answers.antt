@@ -1,6 +1,6 @@
 use Rattle.std.proofs.Common.{◌∙◌, ◌+◌, sym, ap, false, arith}
 use Rattle.std.specs.Prelude.{not}
-use Rattle.mig_base.proofs.RangeLemmas.{none_below-from, none_below-not}
+use Rattle.foundation.proofs.RangeLemmas.{none_below-from, none_below-not}
 use Rattle.kernel_rules.specs.State.{page_is}
 use Rattle.kernel_rules.specs.Tests.{passes}
 use Rattle.kernel_rules.specs.Held.{kernel_of}

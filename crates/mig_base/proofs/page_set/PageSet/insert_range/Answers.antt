@@ -1,5 +1,5 @@
 use Rattle.std.proofs.Common.{◌≤◌, ◌∙◌, ◌||◌, ap, arith, length}
-use Rattle.mig_base.specs.Ranges.{in_range}
+use Rattle.foundation.specs.Ranges.{in_range}
 use Rattle.mig_base.proofs.PageSetViews.{on_any_err, same_shown, range_shown}
 use Rattle.mig_base.proofs.page_set.PageSet.insert_range.Goals as goal
 

@@ -1,5 +1,5 @@
 use Rattle.std.proofs.Common.{◌≤◌, ◌∙◌, ◌||◌, ap, arith, length, refl}
-use Rattle.mig_base.specs.Ranges.{in_range}
+use Rattle.foundation.specs.Ranges.{in_range}
 use Rattle.mig_base.proofs.PageSetViews.{on_any_err, same_shown, with_range_shown}
 use Rattle.mig_base.proofs.page_set.PageSet.insert_range_in_both.Goals as goal
 

@@ -1,5 +1,5 @@
 use Rattle.std.proofs.Common.{◌∙◌, ap, cond, None}
-use Rattle.mig_base.specs.Ranges.{in_range}
+use Rattle.foundation.specs.Ranges.{in_range}
 use Rattle.mig_base.proofs.PageSetViews.{on_any_err}
 use Rattle.owed_pages.proofs.OwedLemmas.{same_shown, moved_shown}
 use Rattle.owed_pages.proofs.owed.Owed.move_range.Goals as goal

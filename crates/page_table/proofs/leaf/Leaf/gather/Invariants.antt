@@ -1,6 +1,6 @@
 use Rattle.std.proofs.Common.{◌≡◌, ◌*◌, ◌%◌, ◌&&◌, ◌||◌, ℕ, is_some}
 use Rattle.std.specs.FinSet.{contains}
-use Rattle.mig_base.specs.Ranges.{in_range}
+use Rattle.foundation.specs.Ranges.{in_range}
 use Rattle.page_table.specs.Leaves.{leaf_cell}
 use Rattle.page_table.proofs.leaf.Leaf.gather.Given as goal
 

@@ -1,5 +1,5 @@
-use Rattle.std.proofs.Common.{refl, sym, ◌∙◌}
-use Rattle.precopy.specs.contracts.source.Source.{the_view}
+use Rattle.std.proofs.Common.{sym, ap, ◌∙◌}
+use Rattle.mig_model.specs.NodeSteps.{first_of}
 use Rattle.precopy.proofs.HandlerLemmas.{next_told}
 use Rattle.precopy.proofs.source.Source.next_act.Goals as goal
 
@@ -7,4 +7,4 @@ pub returns : goal.returns
 returns c =
     let told = c.next_act.ensures in
     next_told c.args.self.now c.next_act.result (sym c.is_handling.ensures ∙ c.if-not-is_handling.false) (rw (← c.self.view_is) told.accepted) (rw (← c.self.view_is) told.refused)
-    (rw (← c.self.view_is) (λ fault rest held. told.act (the_view c.self.inside) fault rest refl held))
+    (rw (← c.self.view_is) (λ fault rest held. told.act fault (ap first_of held)))

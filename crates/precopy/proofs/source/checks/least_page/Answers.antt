@@ -1,7 +1,7 @@
 use Rattle.std.proofs.Common.{sym, arith}
 use Rattle.std.specs.FinSet.{contains}
 use Rattle.mig_base.specs.declared.TheConstants.{HIGH_PAGE}
-use Rattle.mig_base.proofs.RangeLemmas.{least_below-is, least_below-none}
+use Rattle.foundation.proofs.RangeLemmas.{least_below-is, least_below-none}
 use Rattle.precopy.proofs.source.checks.least_page.Goals as goal
 
 pub returns-then-page-lt-HIGH_PAGE : goal.returns-then-page-lt-HIGH_PAGE

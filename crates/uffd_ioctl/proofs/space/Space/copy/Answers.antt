@@ -1,5 +1,5 @@
 use Rattle.std.proofs.Common.{◌/◌, arith, length}
-use Rattle.mig_base.specs.Bits.{is_one}
+use Rattle.foundation.specs.Bits.{is_one}
 use Rattle.mig_model.specs.Ioctls.{copy_error, handed}
 use Rattle.uffd_ioctl.specs.Spaces.{machine_space}
 use Rattle.uffd_ioctl.proofs.InstallLemmas.{IsCall, copy_call}

@@ -1,7 +1,7 @@
 use Rattle.std.proofs.Common.{◌≡◌, ◌&&◌, ◌||◌, ap, ◌∙◌}
 use Rattle.std.specs.FinMap as map
 use Rattle.mig_model.specs.Ioctls.{is_one_area}
-use Rattle.mig_base.specs.Tests.{is_every}
+use Rattle.foundation.specs.Tests.{is_every}
 use Rattle.userfault.specs.Modes.{has_mode_of}
 use Rattle.uffd_ioctl.specs.Spaces.{machine_space}
 use Rattle.uffd_ioctl.proofs.InstallLemmas.{every_prot, one_area_found, one_area_not}

@@ -6,7 +6,7 @@ use Rattle.userfault.specs.Modes as modes
 use Rattle.uffd_ioctl.specs.Spaces.{machine_space}
 use Rattle.uffd_ioctl.proofs.RegisterLemmas.{made_by, sound_low, watched_in}
 use Rattle.uffd_ioctl.proofs.space.Space.register.Goals as goal
-use Rattle.mig_base.proofs.TestLemmas.{never_some}
+use Rattle.foundation.proofs.TestLemmas.{never_some}
 
 pub registered-requires-clause-low : goal.registered-requires-clause-low
 registered-requires-clause-low c = sound_low (machine_space c.self.inside.areas c.self.inside.pages c.self.inside.object) c.self.invariant

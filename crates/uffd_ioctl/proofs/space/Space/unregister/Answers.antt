@@ -4,7 +4,7 @@ use Rattle.mig_model.specs.Ioctls as table
 use Rattle.mig_model.proofs.memory.IoctlLemmas.{IsSoundSpace-range_unregistered}
 use Rattle.uffd_ioctl.proofs.RegisterLemmas.{made_by, opened}
 use Rattle.uffd_ioctl.proofs.space.Space.unregister.Goals as goal
-use Rattle.mig_base.proofs.TestLemmas.{never_some}
+use Rattle.foundation.proofs.TestLemmas.{never_some}
 
 pub returns-clause-space : goal.returns-clause-space
 returns-clause-space c =

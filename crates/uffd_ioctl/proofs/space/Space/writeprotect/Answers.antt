@@ -1,6 +1,6 @@
 use Rattle.std.proofs.Common.{◌∙◌, ◌/◌, sym, subst}
-use Rattle.mig_base.specs.Bits.{is_one}
-use Rattle.mig_base.proofs.TestLemmas.{never_some}
+use Rattle.foundation.specs.Bits.{is_one}
+use Rattle.foundation.proofs.TestLemmas.{never_some}
 use Rattle.mig_model.specs.Space as machine
 use Rattle.mig_model.specs.Ioctls as table
 use Rattle.mig_model.proofs.memory.IoctlLemmas.{IsSoundSpace-write_protected}

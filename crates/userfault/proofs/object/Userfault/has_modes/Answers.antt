@@ -1,7 +1,7 @@
 use Rattle.std.proofs.Common.{◌∙◌, ◌||◌, not, ap}
 use Rattle.std.specs.FinSet.{contains}
 use Rattle.mig_base.specs.Userfault.{has_modes}
-use Rattle.mig_base.specs.Tests.{is_every}
+use Rattle.foundation.specs.Tests.{is_every}
 use Rattle.userfault.specs.Modes.{mode_of}
 use Rattle.userfault.proofs.EveryLemmas.{both_true, both_false}
 use Rattle.userfault.proofs.object.Userfault.has_modes.Goals as goal

@@ -1,6 +1,6 @@
 use Rattle.std.proofs.Common.{◌∙◌, ap}
 use Rattle.std.specs.FinSet.{contains}
-use Rattle.mig_base.specs.Tests.{same_bool, is_every}
+use Rattle.foundation.specs.Tests.{same_bool, is_every}
 use Rattle.userfault.specs.Modes.{has_mode_of}
 use Rattle.userfault.proofs.EveryLemmas.{both_true, both_false}
 use Rattle.userfault.proofs.object.Userfault.has_one_mode.Goals as goal

@@ -1,5 +1,5 @@
 use Rattle.std.proofs.Common.{◌∙◌, ap}
-use Rattle.mig_base.specs.Ranges.{in_range}
+use Rattle.foundation.specs.Ranges.{in_range}
 use Rattle.mig_base.specs.Userfault.{registered_where}
 use Rattle.userfault.specs.Modes.{mode_of}
 use Rattle.userfault.proofs.ModeLemmas.{is_registered_where}

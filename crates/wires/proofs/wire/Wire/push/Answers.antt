@@ -1,6 +1,6 @@
 use Rattle.std.proofs.Common.{◌++◌, ap, ◌∙◌}
-use Rattle.frame_texts.specs.Texts.{text}
-use Rattle.frame_texts.specs.Texts.Version.{Two}
+use Rattle.page_stream.specs.Texts.{text}
+use Rattle.page_stream.specs.Texts.Version.{Two}
 use Rattle.page_stream.specs.Frames.{frame_of}
 use Rattle.wires.specs.Lanes.{lane_bytes}
 use Rattle.wires.proofs.ByteLemmas.{more_bytes}

@@ -1,7 +1,7 @@
 use Rattle.std.proofs.Common.{◌++◌, ap, ◌∙◌}
 use Rattle.mig_model.specs.Wire.{Frame}
-use Rattle.frame_texts.specs.Texts.{text}
-use Rattle.frame_texts.specs.Texts.Version.{Two}
+use Rattle.page_stream.specs.Texts.{text}
+use Rattle.page_stream.specs.Texts.Version.{Two}
 use Rattle.wires.specs.Lanes.{lane_bytes}
 use Rattle.wires.proofs.ByteLemmas.{more_bytes}
 use Rattle.wires.proofs.wire.Wire.push_page.Goals as goal

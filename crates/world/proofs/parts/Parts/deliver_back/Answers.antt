@@ -3,7 +3,7 @@ use Rattle.mig_base.specs.declared.schedule.Step.{Step}
 use Rattle.mig_model.specs.Migration.{has_started}
 use Rattle.wires.specs.Lanes.{sent_of}
 use Rattle.world.specs.Worlds.{world_of}
-use Rattle.world.proofs.DeliveryLemmas.{arrived_moved, arrived_whole, back_lacking, back_moved, back_refused, back_right, back_took, can_arrive, not_none, recv_right, taken_off}
+use Rattle.world.proofs.DeliveryLemmas.{arrived_moved, arrived_whole, back_lacking, back_moved, back_refused, back_right, back_took, can_arrive, not_none, taken_off}
 use Rattle.world.proofs.StepLemmas.{happens_refused}
 use Rattle.world.proofs.parts.Parts.deliver_back.Goals as goal
 
@@ -28,12 +28,6 @@ receive_back-requires-clause-right c =
     let can = can_arrive c.args.self.now.up c.has_started.result (has_started (world_of c.args.self.now)) c.args.self.now.back.wire c.has_started.ensures c.in_ok-ensure_in_flight.ensures in
     let whole = arrived_whole c.args.self.now.back.wire c.args.n c.in-Ok.arrived c.in-Some.sent c.arrive.new.self.wire c.in-Some.is c.in-Ok.ensures.arrived in
     back_right (world_of c.args.self.now) c.args.n c.in-Some.sent c.requires.reached can whole.0
-
-pub receive_back-requires-clause-recv : goal.receive_back-requires-clause-recv
-receive_back-requires-clause-recv c = λ state owed is.
-    let can = can_arrive c.args.self.now.up c.has_started.result (has_started (world_of c.args.self.now)) c.args.self.now.back.wire c.has_started.ensures c.in_ok-ensure_in_flight.ensures in
-    let whole = arrived_whole c.args.self.now.back.wire c.args.n c.in-Ok.arrived c.in-Some.sent c.arrive.new.self.wire c.in-Some.is c.in-Ok.ensures.arrived in
-    recv_right (world_of c.args.self.now) c.args.n c.in-Some.sent state owed c.requires.reached can whole.0 is
 
 pub returns-in_default-receive_back : goal.returns-in_default-receive_back
 returns-in_default-receive_back c =

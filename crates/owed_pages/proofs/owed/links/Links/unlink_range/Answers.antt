@@ -1,5 +1,5 @@
 use Rattle.std.proofs.Common.{◌∙◌, ◌-◌, sym, ap, arith, cond, None}
-use Rattle.mig_base.specs.Ranges.{in_range}
+use Rattle.foundation.specs.Ranges.{in_range}
 use Rattle.mig_base.proofs.PlaceLemmas.{same_leaf}
 use Rattle.owed_pages.specs.Tables.{page_number}
 use Rattle.owed_pages.proofs.TableLemmas.{none_without_place}

@@ -1,5 +1,5 @@
 use Rattle.std.proofs.Common.{◌≡◌, ℕ, cond, None}
-use Rattle.mig_base.specs.Ranges.{in_range}
+use Rattle.foundation.specs.Ranges.{in_range}
 use Rattle.owed_pages.specs.Tables.{page_number, has_place}
 use Rattle.owed_pages.proofs.owed.links.Links.unlink_run.Given as goal
 

@@ -1,0 +1,4 @@
+pub mod Ranges
+pub mod Bits
+pub mod Tests
+pub mod Modes
