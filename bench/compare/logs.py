@@ -8,7 +8,8 @@ model's answers: the object's first calls, and then one call at a time; between 
 each of which ends when its last message is read. Those of an mremap are a kernel's, in its order: each is read where
 the model reads one, and what is left with the model's last. The log must be certified, whatever is found of the
 handler, which a script may end in its middle, and differ from the model as kernel_laws says alone. The scripts are
-those of `postmig explore`, SEEDS of each profile (20), without what kernel_laws::a_destination_is_logged leaves out
+those of `postmig explore`, SEEDS of each profile (20), after which the nodes read until no map call is under way (where
+an mremap moves to, its end says alone), without what kernel_laws::a_destination_is_logged leaves out
 from `start` on: a dontneed past the model's last address, and, until a dontneed returns, accesses to its pages, other
 map calls with a message and an mremap that is done. --source: logs of the source too, which names no thread, as a
 handler without UFFD_FEATURE_THREAD_ID (a processor of the model may have two faults unread, a thread of a kernel one).
@@ -44,6 +45,8 @@ MAP_CALL = re.compile(r"cpu (\d+) ((mmap|munmap|mremap|dontneed)\b.*)")
 HIGH = 1 << 32
 # The words of a script for a protection and a place, with what mmap(2) has for them.
 PROTECTIONS, PLACES = {"none": 0, "r": 1, "rw": 3}, {"": 0x22, "fixed": 0x32, "noreplace": 0x100022}
+# What is done after a script: each read, and what it asks for.
+READS = ("dread", "dact", "sread", "sact") * 16
 # The status of a log that has nothing to judge: no message was read, and no page was put.
 NOTHING = 6
 # How the run of a log may differ from the model, and that of a log with an mremap: kernel_laws, `is_expected`.
@@ -285,7 +288,7 @@ def main():
         for seed in range(arguments.first, arguments.first + arguments.seeds):
             words = ["explore", "--profile", profile, "--seed", str(seed)]
             made = subprocess.run([POSTMIG, *words], capture_output=True, text=True, check=True)
-            scripts[f"{profile}-{seed}"] = followed(made.stdout.splitlines())
+            scripts[f"{profile}-{seed}"] = followed([*made.stdout.splitlines(), *READS])
     found, wrong = collections.Counter(), []
     given = (nodes, arguments.keep, arguments.without)
     with concurrent.futures.ThreadPoolExecutor(os.cpu_count()) as threads:

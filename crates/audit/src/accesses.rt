@@ -161,12 +161,9 @@ impl Search {
 
     /// Whether a read has shown the fault of a thread.
     fn has_shown(&self, read: Option<u32>, thread: u64) -> bool {
-        for shown in &self.shown {
-            if shown.thread == thread && read == Some(shown.read) {
-                return true;
-            }
-        }
-        false
+        self.shown
+            .iter()
+            .any(|shown| shown.thread == thread && read == Some(shown.read))
     }
 
     pub(crate) fn prepare_read(&mut self, read: u32, call: &LogCall) -> Result<(), NoMemory> {
@@ -177,12 +174,11 @@ impl Search {
             self.drain(object, read)?;
             return self.plan(others(CallFilter::Waiting(object)));
         }
-        if call.is_ok() {
-            let next = self.taken(read);
-            self.plan_thread(ThreadTask::Show { read, next })
-        } else {
-            Ok(())
+        if !call.is_ok() {
+            return Ok(());
         }
+        let next = self.taken(read);
+        self.plan_thread(ThreadTask::Show { read, next })
     }
 
     /// The unread faults of an object go, but those that a call has shown.
@@ -349,9 +345,12 @@ impl Search {
             let range = one_page(page);
             self.plan(Task::MakeMissing { space, range })?;
         }
-        if self.kernel.page(space, page).is_none() {
-            let range = one_page(page);
+        let is_registered = self.kernel.page(space, page).is_some();
+        if !is_registered || self.is_there(space, page) && !is_protection(access.flags) {
             self.plan(others(CallFilter::MovesTo { space, page }))?;
+        }
+        if !is_registered {
+            let range = one_page(page);
             self.plan(others(CallFilter::Registers { object, range }))?;
         }
         Ok(())

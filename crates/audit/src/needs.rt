@@ -414,13 +414,10 @@ impl Search {
 
     /// Whether a fault waits to be read.
     fn is_waiting(&self, object: u64, page: u64, flags: u64) -> bool {
-        for fault in self.kernel.rules.faults() {
+        self.kernel.rules.faults().iter().any(|fault| {
             let is_there = fault.object == object && fault.page == page && fault.flags == flags;
-            if is_there && matches!(fault.phase, Phase::Unread) {
-                return true;
-            }
-        }
-        false
+            is_there && matches!(fault.phase, Phase::Unread)
+        })
     }
 
     /// Whether one is an event that may be of a map call.

@@ -180,9 +180,12 @@ impl Search {
     }
 
     fn prepare_map_call(&mut self, place: u32, call: &LogCall) -> Result<(), NoMemory> {
-        let (Some(range), true) = (self.log.pages_of(call), call.is_ok()) else {
+        let Some(range) = self.log.pages_of(call) else {
             return Ok(());
         };
+        if !call.is_ok() {
+            return self.plan_unmapped(call, range);
+        }
         let space = call.space;
         let line = call.end;
         if call.populates() {
@@ -203,14 +206,25 @@ impl Search {
             range,
             by: place,
         }))?;
-        // Where it ends before its own event could be read, another call has unmapped or moved what it maps, unmaps or moves.
-        if !matches!(call.call, Call::Madvise { .. }) && line == self.line {
-            self.plan(others(CallFilter::Unregisters { space, range }))?;
-            if let Some(range) = moved_to(self.log.size, call) {
-                self.plan(others(CallFilter::Unregisters { space, range }))?;
-            }
+        self.plan_unmapped(call, range)
+    }
+
+    /// Where a call ends before its own event could be read, another call has unmapped or moved what it maps, unmaps or moves. A madvise(2) then fails
+    /// with ENOMEM.
+    fn plan_unmapped(&mut self, call: &LogCall, range: Range) -> Result<(), NoMemory> {
+        let finds_none = match call.call {
+            Call::Madvise { .. } => matches!(call.errno(), Some(Errno::Enomem)),
+            _ => call.is_ok(),
+        };
+        if !finds_none || call.end != self.line {
+            return Ok(());
         }
-        Ok(())
+        let space = call.space;
+        self.plan(others(CallFilter::Unregisters { space, range }))?;
+        match moved_to(self.log.size, call) {
+            Some(range) => self.plan(others(CallFilter::Unregisters { space, range })),
+            None => Ok(()),
+        }
     }
 
     /// The pages that a madvise touches are there, and nothing forbids it to.
